@@ -60,7 +60,6 @@ use Rattle.xt_timeless.specs.Time.{executes, fetches_time, is_of_time, reads_tim
 use Rattle.xt_timeless.specs.Alike.{AreAlike}
 use Rattle.xt_secrets.specs.TimeUnknown.{TimeIsUnknown, all_but_time, timeless_mask}
 use Rattle.xt_timeless.proofs.Lists.{alike_from, same_cleared}
-use Rattle.xt_timeless.proofs.Same.{low}
 
 -- ---- the masks
 
@@ -70,6 +69,13 @@ known_at n other = λ i. cond (interrupt i) (complement timer_bits) (cond (other
   where
     interrupt : eqb n 226 ≡ false
     interrupt = unequal n 226 (λ e. true≢false (sym (ap is_of_time e) ∙ other))
+
+-- a register with a lower number than INTERRUPT is none of time
+low : (k : ℕ) → k < 226 → is_of_time k ≡ false
+low k less = λ i. no 234 (omega arith) i || (no 226 less i || (no 240 (omega arith) i || (no 241 (omega arith) i || no 242 (omega arith) i)))
+  where
+    no : (n : ℕ) → k < n → eqb k n ≡ false
+    no n below = unequal k n (λ e. omega (arith, e, below))
 
 -- what holds of each register of time and, where no time is meant, of the others
 by_register : (P : ℕ → Type 0) → P 226 → P 234 → P 240 → P 241 → P 242 → ((n : ℕ) → is_of_time n ≡ false → P n) → (n : ℕ) → P n
@@ -404,7 +410,7 @@ given_same (Some p) n = by_marks (holds_marks p.1) refl
 
 ticked_same : (n : ℕ) → ticked_masks timeless_mask n ≡ timeless_mask n
 unfolding timer_bit without_bits
-ticked_same = by_register (λ n. ticked_masks timeless_mask n ≡ timeless_mask n) refl refl refl refl refl (λ n other. λ i. cond (off n other 234 refl i) 0 (cond (off n other 226 refl i) (timed n) (timeless_mask n)))
+ticked_same = by_register (λ n. ticked_masks timeless_mask n ≡ timeless_mask n) refl refl refl refl refl (λ n other. λ i. cond (off n other 234 refl i) (cond (eqb (timeless_mask n) all_bits) all_bits 0) (cond (off n other 226 refl i) (timed n) (timeless_mask n)))
   where
     timed : ℕ → ℕ
     timed n = timed_mask timeless_mask 2 (timed_mask timeless_mask 1 (timed_mask timeless_mask 0 (timeless_mask n)))
