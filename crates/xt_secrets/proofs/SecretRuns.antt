@@ -9,7 +9,6 @@ use Rattle.xt_map.specs.declared.segment.Segment.{Segment}
 use Rattle.xt_map.specs.Touching.{IsMemory}
 use Rattle.xt_image.specs.declared.image.Image.{Image}
 use Rattle.xt_image.specs.ImageParts.{FitsImage, FitsSegment}
-use Rattle.xt_trace.specs.declared.options.Options.{Options}
 use Rattle.xt_trace.specs.declared.options.Stack.{Stack}
 use Rattle.xt_trace.specs.declared.record.StepKind.{StepKind}
 use Rattle.xt_trace.specs.declared.record.StepRecord.{StepRecord}
@@ -40,7 +39,7 @@ use Rattle.xt_uses.specs.UseStep.{reply_mask}
 use Rattle.xt_use_run.proofs.ImageRuns.{code_bytes}
 use Rattle.xt_secrets.specs.SecretBytes.{is_hidden}
 use Rattle.xt_secrets.specs.SecretLaws.{TurnsAgree}
-use Rattle.xt_secrets.specs.SecretWorlds.{Learned, core_in, given_learned, known_of, learned_over, opening_learned, turn_in}
+use Rattle.xt_secrets.specs.SecretWorlds.{Learned, core_in, given_learned, learned_over, opening_learned, turn_in}
 use Rattle.xt_secrets.specs.WorldLaws.{IsLearned, IsShapedWorld, NextAgree, NextTurnsAgree, PublicAgree, PublicAgreeOver, TurnsAgreeOver, UsesAreKnown, WorldsAgree}
 use Rattle.xt_secrets.specs.FirstLeak.{IsFirstLeak, Leak, Standing, Watched, known_uses, standing_before, standing_over}
 use Rattle.xt_secrets.specs.LeakLaws.{DifferInBytes, IsRunFrom, with_memory}
@@ -48,7 +47,7 @@ use Rattle.xt_secrets.specs.WatchedRuns.{watched_of}
 use Rattle.xt_secrets.specs.SecretRuns.{AreSameWorlds, IsSameTurn}
 use Rattle.xt_secrets.specs.SecretRunLaws.{ImageRunsAreSameUpToTheLeak}
 use Rattle.xt_secrets.proofs.Worlds.{agreed, given_shaped, next_is_learned, orders_go_on_alike}
-use Rattle.xt_secrets.proofs.Leaks.{KnownUntil, known_until, one_past, open_alike, opened, opens_learned, standing_in, until_leak, zero_past}
+use Rattle.xt_secrets.proofs.Leaks.{known_until, one_past, open_alike, opened, opens_learned, standing_in, until_leak, zero_past}
 
 -- ---- cores that stop by the same turns
 
