@@ -1,9 +1,10 @@
 -- Runs of an image with other secrets: each number of turns up to the first leak, and each turn before it.
 use Rattle.std.specs.Prelude.{slice_get, slice_index}
 use Rattle.std.specs.List.{AllByRecursion}
-use Rattle.std.proofs.Common.{◌≡◌, ℕ, zero, suc, ◌%◌, ◌<◌, ◌≤◌, Bool, true, cond, ◌||◌, Option, Some, List, [], ◌∷◌, ◌++◌, take, refl, sym, ap, ◌∙◌, subst, arith}
+use Rattle.std.proofs.Common.{◌≡◌, ℕ, zero, suc, ◌%◌, ◌<◌, ◌≤◌, Bool, true, cond, ◌||◌, Option, Some, List, [], ◌∷◌, ◌++◌, length, take, refl, sym, ap, ◌∙◌, subst, arith}
 use Rattle.std.proofs.lemmas.List.Elements.{recursion_from_All}
 use Rattle.std.proofs.lemmas.Option.{none-some, same_Some}
+use Rattle.std.proofs.Math.Seq.{take-length}
 use Rattle.xt_map.specs.declared.contents.MemoryContents.{MemoryContents}
 use Rattle.xt_map.specs.declared.segment.Segment.{Segment}
 use Rattle.xt_map.specs.Touching.{IsMemory}
@@ -22,6 +23,7 @@ use Rattle.xt_trace.specs.Traces.{has_stopped}
 use Rattle.xt_trace.specs.Validity.{IsValidStack}
 use Rattle.xt_trace.specs.Walks.{IsWalk, next_record}
 use Rattle.xt_trace.specs.Worlds.{Core, World, advance, core_given, give, left_past}
+use Rattle.xt_trace.proofs.Own.{own_world}
 use Rattle.xt_trace.proofs.Short.{stopped_push}
 use Rattle.xt_trace.proofs.Walks.{own_walk}
 use Rattle.xt_fetch.specs.Code.{AreBytes}
@@ -44,7 +46,7 @@ use Rattle.xt_secrets.specs.WorldLaws.{IsLearned, IsShapedWorld, NextAgree, Next
 use Rattle.xt_secrets.specs.FirstLeak.{IsFirstLeak, Leak, Standing, Watched, known_uses, standing_before, standing_over}
 use Rattle.xt_secrets.specs.LeakLaws.{DifferInBytes, IsRunFrom, with_memory}
 use Rattle.xt_secrets.specs.WatchedRuns.{watched_of}
-use Rattle.xt_secrets.specs.SecretRuns.{AreSameWorlds, IsSameTurn}
+use Rattle.xt_secrets.specs.SecretRuns.{AreSameWorlds, HasNoTurnsLeft, IsSameTurn, run_world}
 use Rattle.xt_secrets.specs.SecretRunLaws.{ImageRunsAreSameUpToTheLeak}
 use Rattle.xt_secrets.proofs.Worlds.{agreed, given_shaped, next_is_learned, orders_go_on_alike}
 use Rattle.xt_secrets.proofs.Leaks.{known_until, one_past, open_alike, opened, opens_learned, standing_in, until_leak, zero_past}
@@ -107,6 +109,11 @@ module _ (code : ℕ → ℕ) (public : ℕ → Bool) where
   standing_walk (suc c ∷ cs) (suc n) w k xs ys walk =
       subst (λ (l : List StepRecord). standing_over code public (take (suc n) (turns (suc c ∷ cs) xs l)) (standing_in w k) ≡ standing_in (advance P (take (suc n) (suc c ∷ cs)) w) (learned_over code public (take (suc n) (suc c ∷ cs)) w k)) (sym walk.1)
       (ap (λ (b : Standing). standing_over code public (take n (turns cs xs walk.0)) b) (one_past code public c w k walk.2) ∙ standing_walk cs n (give P (suc c) w) (given_learned code public (suc c) w k) xs walk.0 walk.3)
+
+  length_turns : (order : List ℕ) (w : World State) (xs ys : List StepRecord) → IsWalk P order w xs ys → length (turns order xs ys) ≡ length order
+  length_turns [] w xs ys walk = refl
+  length_turns (zero ∷ cs) w xs ys walk = subst (λ (l : List StepRecord). length (turns (zero ∷ cs) l ys) ≡ suc (length cs)) (sym walk.1) (ap suc (length_turns cs (give P 0 w) walk.0 ys walk.3))
+  length_turns (suc c ∷ cs) w xs ys walk = subst (λ (l : List StepRecord). length (turns (suc c ∷ cs) xs l) ≡ suc (length cs)) (sym walk.1) (ap suc (length_turns cs (give P (suc c) w) xs walk.0 walk.3))
 
   -- a turn is the next one of its core in the world before it
   record IsNextTurn (t : Turn) (w : World State) : Type 0 where
@@ -261,6 +268,16 @@ module _ (image : Image) (r : Run) (fits : FitsImage image) (vecbase : IsWord r.
   watched_run : (secret public : ℕ → Bool) → IsRunFrom (watched_of image r secret public) (world_at_start o) (schedule_in r) (records_of 0 image r).records (records_of 1 image r).records
   watched_run secret public = record { opening0 = refl; opening1 = refl; walk = image_walk; turns = refl }
 
+  -- after all turns of its schedule
+  world_ended : (secret public : ℕ → Bool) (n : ℕ) → n ≡ length (watched_of image r secret public).turns → HasNoTurnsLeft (run_world image r n)
+  world_ended secret public n e =
+      let P = processor (code_of image) in
+      let order = schedule_in r in
+      let all : take n order ≡ order = ap (λ (m : ℕ). take m order) (e ∙ length_turns (code_of image) public order (world_at_start o) (records_of 0 image r).records (records_of 1 image r).records image_walk) ∙ take-length order in
+      let ends = own_world P o whole whole_run in
+      let path = ap (λ (cores : List ℕ). advance P cores (world_at_start o)) (all ∙ sym schedule_is) ∙ ends in
+      (ap (λ (w : World State). w.core0.left) path, ap (λ (w : World State). w.core1.left) path)
+
 even_openings : (o : Opening State) (m : MemoryContents) → EvenWorlds (world_at_start o) (world_at_start (with_memory m o))
 even_openings o m = record { first = record { left = refl; stopped = refl }; second = record { left = refl; stopped = refl } }
 
@@ -278,7 +295,9 @@ image_runs_are_same_up_to_the_leak image r secret public p found fits vecbase en
     let g = opens_shaped image r fits vecbase entry1 run other secrets.regions in
     let own = watched_run image r fits vecbase entry1 run secret public in
     let differ : DifferInBytes (is_hidden secret public) v w = record { state0 = refl; state1 = refl; left0 = refl; left1 = refl; sent = secrets.sent; bytes = secrets.bytes } in
+    let worlds = same_worlds t v w order xs ys p found bytes f g (even_openings o other) own first differ n few equal in
     record {
-      worlds = same_worlds t v w order xs ys p found bytes f g (even_openings o other) own first differ n few equal;
+      worlds = worlds;
       turn = same_turns t v w order xs ys p found bytes f g (even_openings o other) own first differ n few equal;
+      end = λ e. let mine = world_ended image r fits vecbase entry1 run secret public n e in (mine, (sym worlds.agree.left0 ∙ mine.0, sym worlds.agree.left1 ∙ mine.1));
     }

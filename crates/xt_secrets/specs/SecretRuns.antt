@@ -4,10 +4,11 @@
 -- Profile: a byte is hidden if it is secret and not public. With other secrets the cores make their
 -- turns in the order of the run's own schedule. The image, the options and so the states in which
 -- both cores open are the same, and memory differs in hidden bytes alone.
--- Note: each number n of turns up to the leak is compared apart, and so is turn n if it is before
--- the leak. Only these may differ: values that are written, stored or replied, in bits that are not
--- known; and whether a conditional move writes whose condition is not known.
-use Rattle.std.specs.Prelude.{◌≡◌, ℕ, ◌<◌, ◌≤◌, Bool, false, Some, slice_get}
+-- Note: the definition compares the worlds after each number n of turns up to the leak, and turn n
+-- itself if it is before the leak. Only these may differ: values that are written, stored or
+-- replied, in bits that are not known; and whether a conditional move writes whose condition is not
+-- known.
+use Rattle.std.specs.Prelude.{◌≡◌, ℕ, ◌<◌, ◌≤◌, Bool, false, Some, length, slice_get}
 use Rattle.xt_map.specs.declared.contents.MemoryContents.{MemoryContents}
 use Rattle.xt_map.specs.Memory.{byte_at}
 use Rattle.xt_map.specs.Touching.{IsMemory}
@@ -31,7 +32,7 @@ use Rattle.xt_secrets.specs.WatchedRuns.{watched_of}
 
 -- ---- two memories with which a run may open
 
--- the other one has the same regions, and the same bytes except for hidden ones
+-- the other memory has the same regions, and the same bytes except for hidden ones
 pub record HasOtherSecrets (hidden : ℕ → Bool) (memory other : MemoryContents) : Type 0 where
   pub regions : IsMemory other
   pub bytes : (a : ℕ) → hidden a ≡ false → byte_at memory a ≡ byte_at other a
@@ -46,7 +47,7 @@ world_from image r memory n =
     (schedule_in r)
     n
 
--- in the run itself
+-- and as the run itself has them
 abbrev pub run_world : Image → Run → ℕ → World State
 run_world image r n = world_from image r (memory_of image r.options) n
 
@@ -84,7 +85,12 @@ abbrev pub learned_before : Image → Run → (ℕ → Bool) → (ℕ → Bool) 
 learned_before image r secret public n =
     (standing_before (watched_of image r secret public) n).learned
 
--- Turn n of the run, if it is before turn p, and the worlds before it.
+-- no core has a turn left
+abbrev pub HasNoTurnsLeft : World State → Type 0
+HasNoTurnsLeft w = (w.core0.left ≡ 0) × (w.core1.left ≡ 0)
+
+-- Turn n of the run, if it is before turn p, and the worlds before it; after the last turn of the
+-- run both worlds have ended.
 pub record IsSameAt
     (image : Image) (r : Run) (secret public : ℕ → Bool) (other : MemoryContents) (p n : ℕ)
     : Type 0 where
@@ -101,6 +107,9 @@ pub record IsSameAt
       t
       (run_world image r n)
       (world_from image r other n)
+  pub end :
+      n ≡ length (watched_of image r secret public).turns
+      → HasNoTurnsLeft (run_world image r n) × HasNoTurnsLeft (world_from image r other n)
 
 -- The first p turns of the run are the same with every other secret, if with that secret each of
 -- them also stores the same into the public bytes.

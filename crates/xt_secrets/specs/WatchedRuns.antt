@@ -9,12 +9,13 @@ use Rattle.xt_frames.specs.FirstBreach.{turns}
 use Rattle.xt_core.specs.Runs.{code_of, entry_of, opening_at, records_of}
 use Rattle.xt_secrets.specs.FirstLeak.{Watched}
 
--- one of these ranges, each its first address and how many bytes it has, has a byte at this address
+-- one of these ranges, of which each is its first address and its number of bytes, has a byte at this
+-- address
 abbrev pub has_byte_at : List (ℕ × ℕ) → ℕ → Bool
 has_byte_at [] a = false
 has_byte_at (range ∷ rest) a = touches range.0 range.1 a || has_byte_at rest a
 
--- by the options that the run was made with
+-- both cores open as the options of the run say
 abbrev pub watched_of : Image → Run → (ℕ → Bool) → (ℕ → Bool) → Watched
 watched_of image r secret public = record {
   code = code_of image;
