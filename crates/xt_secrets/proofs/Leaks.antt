@@ -77,19 +77,19 @@ same_answer (Some a) m = refl
 abbrev pub KnownUntil : (ℕ → ℕ) → (ℕ → Bool) → ℕ → List Turn → Standing → Type 0
 KnownUntil code public n ts b = (i : ℕ) (t : Turn) → i < n → slice_get ts i ≡ Some t → known_uses code t (standing_over code public (take i ts) b) ≡ true
 
+abbrev pub standing_in : World State → Learned → Standing
+standing_in w k = record { state0 = w.core0.state; state1 = w.core1.state; learned = k }
+
 module _ (code : ℕ → ℕ) (public : ℕ → Bool) where
   abbrev P : Chip State
   P = processor code
-
-  abbrev standing_in : World State → Learned → Standing
-  standing_in w k = record { state0 = w.core0.state; state1 = w.core1.state; learned = k }
 
   some_left : (n : ℕ) → 0 < n → (l : ℕ) × (n ≡ suc l)
   some_left zero h = absurd (omega arith)
   some_left (suc l) h = (l, refl)
 
   -- core 0
-  zero_past : (w : World State) (k : Learned) → 0 < w.core0.left → standing_past code public (turn_of 0 (next_record P w.core0 w.line)) (standing_in w k) ≡ standing_in (give P 0 w) (given_learned code public 0 w k)
+  pub zero_past : (w : World State) (k : Learned) → 0 < w.core0.left → standing_past code public (turn_of 0 (next_record P w.core0 w.line)) (standing_in w k) ≡ standing_in (give P 0 w) (given_learned code public 0 w k)
   unfolding turn
   zero_past w k some =
       let l = some_left w.core0.left some in
@@ -105,7 +105,7 @@ module _ (code : ℕ → ℕ) (public : ℕ → Bool) where
   zero_used w k some used = let l = some_left w.core0.left some in subst (λ (n : ℕ). next_used code n 0 w k ≡ true) (sym l.1) used
 
   -- core 1
-  one_past : (c : ℕ) (w : World State) (k : Learned) → 0 < w.core1.left
+  pub one_past : (c : ℕ) (w : World State) (k : Learned) → 0 < w.core1.left
       → standing_past code public (turn_of 1 (next_record P w.core1 w.line)) (standing_in w k) ≡ standing_in (give P (suc c) w) (given_learned code public (suc c) w k)
   unfolding turn
   one_past c w k some =
@@ -149,7 +149,7 @@ module _ (code : ℕ → ℕ) (public : ℕ → Bool) where
 whole_masks : AreMasks all_known
 whole_masks = record { regs = λ n. omega arith; special = λ n. omega arith; threadptr = omega arith; apart = λ n e. refl }
 
-opens_learned : (secret public : ℕ → Bool) → IsLearned (opening_learned secret public)
+pub opens_learned : (secret public : ℕ → Bool) → IsLearned (opening_learned secret public)
 opens_learned secret public = record { core0 = whole_masks; core1 = whole_masks; bytes = λ a. by_test (is_hidden secret public a) }
   where
     by_test : (b : Bool) → cond b 0 255 < 2 ^ 8
@@ -161,7 +161,7 @@ same_states m s t e =
     subst (λ (u : State). StatesAgree m s u) e
     (record { pc = refl; base = refl; start = refl; ps = refl; waits = refl; regs = λ n. refl; special = λ n. refl; threadptr = refl })
 
-open_alike : (secret public : ℕ → Bool) (v w : World State) → DifferInBytes (is_hidden secret public) v w → WorldsAgree (opening_learned secret public) v w
+pub open_alike : (secret public : ℕ → Bool) (v w : World State) → DifferInBytes (is_hidden secret public) v w → WorldsAgree (opening_learned secret public) v w
 open_alike secret public v w d = record {
   core0 = same_states all_known v.core0.state w.core0.state d.state0;
   core1 = same_states all_known v.core1.state w.core1.state d.state1;
@@ -174,18 +174,15 @@ open_alike secret public v w d = record {
     by_test a true e = agree_none (byte_at v.line.memory a) (byte_at w.line.memory a)
     by_test a false e = ap (masked 255) (d.bytes a e)
 
-until_leak : (r : Watched) (v : World State) (order : List ℕ) (xs ys : List StepRecord) (p : ℕ) (found : Option Leak) → IsRunFrom r v order xs ys → IsFirstLeak r p found
-    → KnownUntil r.code r.public p (turns order xs ys) (record { state0 = v.core0.state; state1 = v.core1.state; learned = opening_learned r.secret r.public })
+pub opened : (r : Watched) (v : World State) (order : List ℕ) (xs ys : List StepRecord) → IsRunFrom r v order xs ys → opening_standing r ≡ standing_in v (opening_learned r.secret r.public)
+opened r v order xs ys run = λ i. record { state0 = run.opening0 i; state1 = run.opening1 i; learned = opening_learned r.secret r.public }
+
+pub until_leak : (r : Watched) (v : World State) (order : List ℕ) (xs ys : List StepRecord) (p : ℕ) (found : Option Leak) → IsRunFrom r v order xs ys → IsFirstLeak r p found
+    → KnownUntil r.code r.public p (turns order xs ys) (standing_in v (opening_learned r.secret r.public))
 unfolding standing_before
 until_leak r v order xs ys p found run first =
-    subst (λ (ts : List Turn). KnownUntil r.code r.public p ts start) run.turns
-    (subst (λ (b : Standing). KnownUntil r.code r.public p r.turns b) opened (λ i t less at. first.before i t less at))
-  where
-    start : Standing
-    start = record { state0 = v.core0.state; state1 = v.core1.state; learned = opening_learned r.secret r.public }
-
-    opened : opening_standing r ≡ start
-    opened = λ i. record { state0 = run.opening0 i; state1 = run.opening1 i; learned = opening_learned r.secret r.public }
+    subst (λ (ts : List Turn). KnownUntil r.code r.public p ts (standing_in v (opening_learned r.secret r.public))) run.turns
+    (subst (λ (b : Standing). KnownUntil r.code r.public p r.turns b) (opened r v order xs ys run) (λ i t less at. first.before i t less at))
 
 pub same_up_to_the_leak : SameUpToTheLeak
 same_up_to_the_leak r v w order xs ys p found bytes f g run first differ equal =

@@ -15,3 +15,5 @@ pub mod Memories
 pub mod Worlds
 pub mod Leaks
 pub mod Both
+pub mod SecretRuns
+pub mod TimeUnknown

@@ -141,7 +141,7 @@ module _ (code : ℕ → ℕ) (bytes : AreBytes code) (public : ℕ → Bool) (m
   abbrev Uses : Type 0
   Uses = turn_used code first.0.kind first.0.access (reply_mask kb first.0.access) m kv.state ≡ true
 
-  agreed : Uses → TurnsAgree code (reply_mask kb (demand code kv.state)) m kv.state first second
+  pub agreed : Uses → TurnsAgree code (reply_mask kb (demand code kv.state)) m kv.state first second
   agreed used = turns code bytes m masks kb small kv.state kw.state f g agree bv.memory bw.memory r w same used
 
   -- with so many turns left after it
@@ -241,7 +241,7 @@ pub given_shaped : (code : ℕ → ℕ) → AreBytes code → (c : ℕ) (w : Wor
 given_shaped code bytes zero w f = record { core0 = core_shaped code bytes w.core0.left w.core0 w.line f.core0 f.memory; core1 = f.core1; memory = line_shaped code 0 w.core0.left w.core0 w.line f.memory }
 given_shaped code bytes (suc c) w f = record { core0 = f.core0; core1 = core_shaped code bytes w.core1.left w.core1 w.line f.core1 f.memory; memory = line_shaped code 1 w.core1.left w.core1 w.line f.memory }
 
-next_is_learned : (code : ℕ → ℕ) → AreBytes code → (public : ℕ → Bool) (left c : ℕ) (w : World State) (k : Learned) → IsLearned k → IsLearned (next_learned code public left c w k)
+pub next_is_learned : (code : ℕ → ℕ) → AreBytes code → (public : ℕ → Bool) (left c : ℕ) (w : World State) (k : Learned) → IsLearned k → IsLearned (next_learned code public left c w k)
 unfolding turn demand
 next_is_learned code bytes public zero c w k l = l
 next_is_learned code bytes public (suc left) zero w k l = record {

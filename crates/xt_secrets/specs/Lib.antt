@@ -7,3 +7,7 @@ pub mod SecretWorlds
 pub mod WorldLaws
 pub mod FirstLeak
 pub mod LeakLaws
+pub mod WatchedRuns
+pub mod SecretRuns
+pub mod SecretRunLaws
+pub mod TimeUnknown

@@ -2,6 +2,8 @@
 
 ghost use Rattle.xt_secrets.specs.LeakLaws.{FirstLeakIsOne, RunsAreSameUpToTheLeak, SameUpToTheLeak};
 ghost use Rattle.xt_secrets.specs.SecretLaws.{MasksStay, TurnsUseAlike, TurnsWithKnownUsesAgree};
+ghost use Rattle.xt_secrets.specs.SecretRunLaws.{ImageRunsAreSameUpToTheLeak};
+ghost use Rattle.xt_secrets.specs.TimeUnknown.{TimeIsUnknown};
 ghost use Rattle.xt_secrets.specs.WorldLaws.{OrdersGoOnAlike, WorldsGoOnAlike};
 
 /// If two states agree in what is known and the turn of one uses known bits alone, the turns agree
@@ -46,4 +48,15 @@ pub fn same_up_to_the_leak()
 /// Up to its first leak every run is the same with each other secret, in all that is known.
 pub fn runs_are_same_up_to_the_leak()
     ensures { RunsAreSameUpToTheLeak }
+{}
+
+/// Up to its first leak every run of an image is the same with each other secret, in all that is known.
+pub fn image_runs_are_same_up_to_the_leak()
+    ensures { ImageRunsAreSameUpToTheLeak }
+{}
+
+/// Time may be what is not known: states that are equal except for it agree in what is known then, and a
+/// turn that uses no time uses known bits alone.
+pub fn time_is_unknown()
+    ensures { TimeIsUnknown }
 {}
