@@ -180,17 +180,17 @@ fn is_analysed<R: Threads + Wait + Sync + AllocGlobal>(
         return Some(false);
     }
     let line = format!(in alloc; "run {options}").ok()?;
-    let report = printed(rt, line.as_str(), input)?;
+    let report = written(rt, line.as_str(), input)?;
     let frames = format!(in alloc; "\nframes {}\n", words_of(case, "frames")).ok()?;
-    if !words_of(case, "frames").is_empty() && !report.as_str().ends_with(frames.as_str()) {
+    if !words_of(case, "frames").is_empty() && !report.as_slice().ends_with(frames.as_bytes()) {
         return Some(false);
     }
     if !matches!(analysis, "events" | "race" | "profile" | "uses") {
         return Some(true);
     }
     let line = format!(in alloc; "run {options} --{analysis}").ok()?;
-    let whole = printed(rt, line.as_str(), input)?;
-    Some(whole.as_str().strip_prefix(report.as_str()) == Some(output.as_str()))
+    let whole = written(rt, line.as_str(), input)?;
+    Some(whole.as_slice().strip_prefix(report.as_slice()) == Some(output.as_bytes()))
 }
 
 // Whether `outcomes` prints the lines of a case in their order, between which those of the orders stand.
