@@ -143,7 +143,10 @@ PLACES = [
     (PROVED, "Ends with their lines: #", lambda: cases("case", "ends")),
     (GUIDE, "today one has #, up to `xt_cli`", lambda: level("xt_cli")),
     (GUIDE, "(today `xt_frames` has #,", lambda: functions("xt_frames")),
-    (GUIDE, "`xt_uses` # and", lambda: functions("xt_uses")),
+    (GUIDE, "`xt_judged` #,", lambda: functions("xt_judged")),
+    (GUIDE, "`xt_uses` #,", lambda: functions("xt_uses")),
+    (GUIDE, "`xt_command_line` #,", lambda: functions("xt_command_line")),
+    (GUIDE, "`xt_outcomes` # and", lambda: functions("xt_outcomes")),
     (GUIDE, "`xt_rows` #)", lambda: functions("xt_rows")),
 ]
 

@@ -26,9 +26,10 @@ use Rattle.xt_status.specs.Calls.{Ends, IsUntouched, ReadsWhole, TakesWithin}
 use Rattle.xt_status.specs.Inputs.{image_refusal, recording_refusal}
 use Rattle.xt_session.specs.Calls.{Sessions}
 use Rattle.xt_tools.specs.Commands as commands
-use Rattle.xt_tools.specs.Commands.{AreOutcomesTold, IsAssembled, IsCountsTold, IsListed}
+use Rattle.xt_tools.specs.Commands.{IsAssembled, IsCountsTold, IsListed}
 use Rattle.xt_tools.specs.Commands.{IsRaceTold, converted_image, elf_refusal, events_output}
 use Rattle.xt_tools.specs.Commands.{migrated_recording, profile_output, text_refusal, trace_output}
+use Rattle.xt_cli.specs.Outcomes.{AreOutcomesTold}
 use Rattle.xt_cli.specs.declared.tool.Job.{Job}
 use Rattle.xt_cli.specs.declared.tool.Job.TheVariants as job
 use Rattle.xt_cli.specs.declared.tool.Tool.{Tool}

@@ -3,6 +3,7 @@
 
 mod ending;
 mod orders;
+mod outcomes;
 mod tool;
 mod top;
 

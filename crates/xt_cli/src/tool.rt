@@ -7,6 +7,7 @@ ghost use Rattle.xt_cli.specs.Puts.{IsWhole, Puts, Replays, status_beyond};
 ghost use Rattle.xt_cli.specs.Tools.{Answers, Finishes, IsComplete, IsMade, Makes, done_status, leads_beyond, limit_of, refusal_of, status_of};
 
 use crate::orders::{Order, order_in};
+use crate::outcomes::outcomes;
 use std::alloc::Global;
 use xt_command_line::{Beyond, Listing, OutcomeOptions, ProfileOptions, Refusal, Turns};
 use xt_debug::{Printed, Script, run_script};
@@ -18,7 +19,7 @@ use xt_session::session;
 use xt_status::{IMAGE_LIMIT, RECORDING_LIMIT, Status, recording_in, status_after, write_text};
 use xt_tools::{
     ELF_LIMIT, TEXT_LIMIT, check, converted_file, counts, events, image_file, list, map_text,
-    migrate, outcomes, profile, race, trace, uses,
+    migrate, profile, race, trace, uses,
 };
 use xt_uses::Discipline;
 

@@ -1,29 +1,27 @@
 -- A turn of a run and the turn of the scene that stands for it without time.
-use Rattle.std.proofs.Common.{◌≡◌, ℕ, zero, suc, ◌<◌, ◌≤◌, ◌⊎◌, Bool, true, false, cond, eqb, not, ◌&&◌, ◌||◌, Option, Some, None, List, [], ◌∷◌, slice_index, refl, sym, ap, ◌∙◌, subst, inl, inr, ⊎_elim, arith}
+use Rattle.std.proofs.Common.{◌≡◌, ℕ, zero, suc, ◌<◌, ◌≤◌, ◌⊎◌, Bool, true, false, cond, not, ◌&&◌, ◌||◌, Option, None, refl, sym, ap, ◌∙◌, subst, inr, ⊎_elim, arith}
 use Rattle.std.specs.Prelude.{is_some}
 use Rattle.std.proofs.lemmas.Bool.{or_parts, true≢false}
 use Rattle.xt_map.specs.declared.access.Access.{Access}
 use Rattle.xt_map.specs.declared.contents.MemoryContents.{MemoryContents}
-use Rattle.xt_special.specs.Access.{without_bits}
 use Rattle.xt_special.specs.Control.{special_of}
 use Rattle.xt_trace.specs.declared.record.RegWrite.{RegWrite}
 use Rattle.xt_trace.specs.declared.record.StepKind.{StepKind}
 use Rattle.xt_trace.specs.declared.record.StepRecord.{StepRecord}
 use Rattle.xt_trace.specs.Traces.{has_stopped}
 use Rattle.xt_trace.specs.Walks.{next_record}
-use Rattle.xt_trace.specs.Worlds.{Core, Line, World, answer, give, memory_left}
+use Rattle.xt_trace.specs.Worlds.{Core, World, answer, give}
 use Rattle.xt_fetch.specs.Code.{AreBytes}
 use Rattle.xt_exec.specs.Chips.{processor}
 use Rattle.xt_exec.specs.State.{State}
-use Rattle.xt_exec.specs.Turn.{demand, planned_turn, reply_where, turn, write_with_reply}
-use Rattle.xt_frames.specs.declared.kinds.BreachKind.{BreachKind}
+use Rattle.xt_exec.specs.Turn.{demand, reply_where, turn, write_with_reply}
 use Rattle.xt_frames.specs.SaveAreas.{is_live}
 use Rattle.xt_frames.specs.Breaches.{Bounds}
 use Rattle.xt_frames.specs.Judging.{Standing, Seen, Handled, Judges, Breaks, seen_record}
-use Rattle.xt_frames.specs.Verdict.{Judgement, Known, judgement, passed_0, passed_1, past_handled_0, past_handled_1, past_judged_0, past_judged_1, seen_0, seen_1}
-use Rattle.xt_timeless.specs.Bare.{Bare, BareWorld, bare_given, bare_in, bare_memory, bare_of, bare_past}
-use Rattle.xt_timeless.specs.TimeLaws.{AreSame, HasTurns, HaveTurns}
-use Rattle.xt_timeless.specs.Time.{timer_bits, uses_time, without_time}
+use Rattle.xt_frames.specs.Verdict.{Known, judgement, passed_0, passed_1, past_handled_0, past_handled_1, past_judged_0, past_judged_1, seen_0, seen_1}
+use Rattle.xt_timeless.specs.Bare.{Bare, BareWorld, bare_given, bare_in, bare_memory, bare_past}
+use Rattle.xt_timeless.specs.TimeLaws.{HasTurns, HaveTurns}
+use Rattle.xt_timeless.specs.Time.{uses_time, without_time}
 use Rattle.xt_timeless.proofs.Going.{bare_gives, same_demand}
 use Rattle.xt_timeless.proofs.Lists.{cleared_alike}
 use Rattle.xt_timeless.proofs.Turning.{turns_alike}
@@ -36,7 +34,6 @@ use Rattle.xt_judged.proofs.Quiet.{IsAsSeen, quiet_as}
 use Rattle.xt_judged.proofs.Sight.{IsKeptSeen, IsKeptStanding, IsSameRecord, seen_kept}
 use Rattle.xt_judged.proofs.Stepping.{unlike_special}
 use Rattle.xt_judged.proofs.Timed.{busy}
-use Rattle.xt_judged.proofs.Untimed.{IsKeptFrame}
 use Rattle.xt_judged.proofs.Walking.{Turned0, Turned1, TurnedOne}
 
 -- ---- records

@@ -20,3 +20,6 @@ pub mod Clocked
 pub mod Once
 pub mod Verdicts
 pub mod Whole
+pub mod Rows
+pub mod Words
+pub mod Windows

@@ -12,8 +12,7 @@ use Rattle.xt_frames.specs.declared.kinds.HandlerPhase.{HandlerPhase}
 use Rattle.xt_frames.specs.declared.kinds.HandlerPhase.TheVariants.{Outside, InHandler, Nested}
 use Rattle.xt_frames.specs.HandlerSteps.{is_window}
 use Rattle.xt_frames.specs.Breaches.{Bounds, breach_of, fetched_tests, first_shown, inputs_of, laid_breach, vector_test, window_breach}
-use Rattle.xt_frames.specs.Judging.{Standing, Seen, Handled, Judges, Breaks, handled_record, live_of, seen_record, seen_in, seen_judged, seen_plain, seen_step, seen_window}
-use Rattle.xt_trace.specs.declared.record.StepKind.{StepKind}
+use Rattle.xt_frames.specs.Judging.{Standing, Seen, Handled, Judges, Breaks, handled_record, live_of, seen_record, seen_in, seen_judged, seen_step, seen_window}
 
 abbrev without_access : StepRecord → StepRecord
 without_access rec = record rec { access = None }

@@ -1,15 +1,12 @@
 -- What the judge sees in records that are equal but for time, where what it knows is equal but for time.
-use Rattle.std.proofs.Common.{◌≡◌, ℕ, zero, suc, Bool, true, false, cond, eqb, nat_lt, not, ◌&&◌, ◌||◌, Option, Some, None, List, [], ◌∷◌, bit_and, slice_index, slice_set, refl, sym, ap, ◌∙◌, subst, arith}
+use Rattle.std.proofs.Common.{◌≡◌, ℕ, zero, suc, Bool, true, false, cond, eqb, nat_lt, not, ◌||◌, Option, Some, None, List, [], ◌∷◌, bit_and, slice_index, slice_set, refl, sym, ap, ◌∙◌, subst, arith}
 use Rattle.std.specs.Prelude.{is_some}
 use Rattle.std.proofs.lemmas.Bool.{eqb-true, or_parts, true≢false}
 use Rattle.xt_isa.specs.declared.Insn.{Insn}
 use Rattle.xt_isa.specs.declared.Insn.TheVariants as insn
 use Rattle.xt_isa.specs.declared.control.Control.TheVariants as control
-use Rattle.xt_special.specs.declared.ps.Ps.{Ps}
 use Rattle.xt_special.specs.Control.{Control, special_of}
 use Rattle.xt_special.specs.Access.{without_bits}
-use Rattle.xt_special.specs.Interrupts.{pending_of}
-use Rattle.xt_trace.specs.declared.record.RegWrite.{RegWrite}
 use Rattle.xt_trace.specs.declared.record.StepKind.{StepKind}
 use Rattle.xt_trace.specs.declared.record.StepKind.TheVariants as kind
 use Rattle.xt_trace.specs.declared.record.StepRecord.{StepRecord}
@@ -24,9 +21,9 @@ use Rattle.xt_frames.specs.Nesting.{begins, current, current_in, is_nesting}
 use Rattle.xt_frames.specs.declared.kinds.HandlerPhase.{HandlerPhase}
 use Rattle.xt_frames.specs.declared.kinds.HandlerPhase.TheVariants.{Outside, InHandler, Nested}
 use Rattle.xt_frames.specs.HandlerSteps.{is_window, phase_after}
-use Rattle.xt_frames.specs.SaveAreas.{Range, is_live}
-use Rattle.xt_frames.specs.Breaches.{Bounds, Test, breach_of, breaks_nested, fetched_return_breach, fetched_tests, first_shown, fresh_after, has_no_caller, inputs_of, insn_tests, is_movsp, is_return, is_underflow, is_windowing, laid_breach, leaves_range, loads_stale, loses_epc1, misaligns_sp, names_high, names_window_register, opens_nothing, other_frame_size, other_tests, reads_none, reads_none_in, return_tests, returns_elsewhere, stale_after, test, touches_save_area, vector_test, window_breach, writes_sp}
-use Rattle.xt_frames.specs.Judging.{Standing, Seen, Handled, Judges, Breaks, fresh_on, handled_record, live_of, seen_record, seen_in, seen_judged, seen_plain, seen_step, seen_window, step_on}
+use Rattle.xt_frames.specs.SaveAreas.{Range}
+use Rattle.xt_frames.specs.Breaches.{Bounds, breach_of, breaks_nested, fetched_return_breach, fetched_tests, first_shown, fresh_after, has_no_caller, inputs_of, insn_tests, is_movsp, is_return, is_underflow, is_windowing, laid_breach, leaves_range, loads_stale, loses_epc1, misaligns_sp, names_high, names_window_register, opens_nothing, other_frame_size, other_tests, reads_none_in, returns_elsewhere, stale_after, test, touches_save_area, vector_test, window_breach, writes_sp}
+use Rattle.xt_frames.specs.Judging.{Standing, Seen, Handled, Judges, Breaks, fresh_on, handled_record, live_of, seen_record, seen_in, seen_judged, seen_step, seen_window, step_on}
 use Rattle.xt_timeless.specs.Time.{fetches_time, timer_bits}
 use Rattle.xt_timeless.specs.Alike.{AreAlike}
 use Rattle.xt_timeless.proofs.Keeping.{kept_pending, with_special}

@@ -1,11 +1,10 @@
 -- The frame machine's step on a record, and what the judge sees in it, in states and records that are equal but for time.
-use Rattle.std.proofs.Common.{◌≡◌, ℕ, zero, suc, ◌+◌, ◌*◌, ◌%◌, ◌<◌, Bool, true, false, cond, eqb, nat_lt, not, ◌&&◌, ◌||◌, Option, Some, None, List, [], ◌∷◌, bit_and, slice_index, slice_set, refl, sym, ap, ◌∙◌, subst, arith}
-use Rattle.std.specs.Prelude.{replicate, is_some}
+use Rattle.std.proofs.Common.{◌≡◌, ℕ, Bool, true, false, cond, Option, Some, None, List, bit_and, slice_set, refl, sym, ap, ◌∙◌, subst, arith}
+use Rattle.std.specs.Prelude.{replicate}
 use Rattle.std.proofs.lemmas.Bool.{true≢false}
 use Rattle.xt_isa.specs.declared.Insn.{Insn}
-use Rattle.xt_isa.specs.declared.Insn.TheVariants as insn
 use Rattle.xt_isa.specs.declared.control.Control.TheVariants as control
-use Rattle.xt_special.specs.Control.{Control, special_of}
+use Rattle.xt_special.specs.Control.{special_of}
 use Rattle.xt_special.specs.Access.{without_bits}
 use Rattle.xt_special.specs.Interrupts.{after_interrupt}
 use Rattle.xt_special.specs.Numbers as number
@@ -17,17 +16,15 @@ use Rattle.xt_fetch.specs.Code.{AreBytes}
 use Rattle.xt_fetch.specs.Fetching.{Fetched, Fetches, Fails, SpellsNothing, fetch_at}
 use Rattle.xt_rows.specs.Settling.{Taken, settled_interrupt}
 use Rattle.xt_frames.specs.declared.holes.Nested.{Nested}
-use Rattle.xt_frames.specs.declared.kinds.BreachKind.{BreachKind}
 use Rattle.xt_frames.specs.Frames.{FrameState}
 use Rattle.xt_frames.specs.FrameStep.{FrameTurn, in_frame, with_inputs, step_with_inputs}
 use Rattle.xt_frames.specs.Marks.{mark_read, marked_seen, marked_write, marks_after, moved_to, own_marks, saved_by, unset_written}
 use Rattle.xt_frames.specs.Nesting.{begins, nested_entry, current, current_in, ends_nested, frame_step, nested_view, with_kept_frame, nested_after, nested_fetched, nested_insn, nested_other, nested_turn, plain_turn, turn_in, unset_after}
-use Rattle.xt_frames.specs.SaveAreas.{Range}
-use Rattle.xt_frames.specs.Breaches.{Bounds, Test, breach_of, fetched_tests, first_shown, inputs_of, insn_tests, laid_breach, leaves_range, misaligns_sp, opens_nothing, other_frame_size, other_tests, vector_test, window_breach}
+use Rattle.xt_frames.specs.Breaches.{inputs_of}
 use Rattle.xt_frames.specs.Judging.{step_on, value_in}
 use Rattle.xt_timeless.specs.Time.{fetches_time, timer_bits}
 use Rattle.xt_timeless.specs.Alike.{AreAlike}
-use Rattle.xt_timeless.proofs.Keeping.{kept_interrupt, kept_pending, with_special}
+use Rattle.xt_timeless.proofs.Keeping.{kept_interrupt, with_special}
 use Rattle.xt_timeless.proofs.Lists.{alike_put}
 use Rattle.xt_judged.proofs.Untimed.{AreKeptTurns, IsKeptFrame, bare_kept, in_frame_kept, laid_step_kept}
 

@@ -1,5 +1,5 @@
 -- A turn of a run and the turn of the scene that stands for it, where time belongs to both.
-use Rattle.std.proofs.Common.{◌≡◌, ℕ, zero, suc, ◌<◌, ◌≤◌, Bool, true, false, cond, eqb, not, ◌||◌, Option, Some, None, List, [], ◌∷◌, refl, sym, ap, ◌∙◌, subst, arith}
+use Rattle.std.proofs.Common.{◌≡◌, ℕ, zero, suc, ◌<◌, Bool, true, false, cond, eqb, ◌||◌, Option, None, refl, sym, ap, ◌∙◌, subst, arith}
 use Rattle.std.specs.Prelude.{is_some}
 use Rattle.std.proofs.lemmas.Bool.{eqb-true, false_from_ne_true, true≢false}
 use Rattle.xt_map.specs.declared.access.Access.{Access}
@@ -7,13 +7,12 @@ use Rattle.xt_map.specs.declared.contents.MemoryContents.{MemoryContents}
 use Rattle.xt_trace.specs.declared.record.StepRecord.{StepRecord}
 use Rattle.xt_trace.specs.Chip.{Chip}
 use Rattle.xt_trace.specs.Walks.{next_record}
-use Rattle.xt_trace.specs.Worlds.{Core, Line, World, answer, core_given, give, line_given}
+use Rattle.xt_trace.specs.Worlds.{Core, World, answer, give}
 use Rattle.xt_exec.specs.State.{State}
-use Rattle.xt_frames.specs.declared.kinds.BreachKind.{BreachKind}
 use Rattle.xt_frames.specs.SaveAreas.{is_live}
 use Rattle.xt_frames.specs.Breaches.{Bounds}
 use Rattle.xt_frames.specs.Judging.{Standing, Seen, Handled, Judges, Breaks, seen_record}
-use Rattle.xt_frames.specs.Verdict.{Judgement, Known, judgement, passed_0, passed_1, past_handled_0, past_handled_1, past_judged_0, past_judged_1, seen_0, seen_1}
+use Rattle.xt_frames.specs.Verdict.{Known, judgement, passed_0, passed_1, past_handled_0, past_handled_1, past_judged_0, past_judged_1, seen_0, seen_1}
 use Rattle.xt_outcomes.specs.Spots.{Side, Spot, side_given, side_in, side_of, side_past, spot_in, spot_past}
 use Rattle.xt_outcomes.proofs.Spotted.{spot_given}
 use Rattle.xt_judged.specs.Alone.{is_other, only_after}

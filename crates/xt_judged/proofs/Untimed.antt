@@ -1,19 +1,15 @@
 -- A step of the machine with unbounded frames from states that are equal but for time.
-use Rattle.std.proofs.Common.{◌≡◌, ℕ, zero, suc, ◌+◌, ◌*◌, ◌%◌, ◌^◌, ◌⊎◌, Bool, true, false, cond, eqb, nat_lt, not, ◌&&◌, ◌||◌, Option, Some, None, List, [], ◌∷◌, bit_and, slice_index, slice_set, take, refl, sym, ap, ◌∙◌, subst, inl, inr, ⊎_elim, arith}
-use Rattle.std.specs.Prelude.{replicate}
-use Rattle.std.proofs.lemmas.Bool.{true≢false}
+use Rattle.std.proofs.Common.{◌≡◌, ℕ, ◌*◌, ◌⊎◌, Bool, true, false, cond, nat_lt, Option, Some, None, List, [], ◌∷◌, bit_and, slice_set, take, refl, sym, ap, subst, ⊎_elim}
 use Rattle.xt_isa.specs.declared.Insn.{Insn}
 use Rattle.xt_isa.specs.Ranges.{in_range}
-use Rattle.xt_special.specs.declared.ps.Ps.{Ps}
 use Rattle.xt_special.specs.Control.{Control, special_of}
-use Rattle.xt_special.specs.Access.{SpecialWrites, with_sets, without_bits}
+use Rattle.xt_special.specs.Access.{SpecialWrites, with_sets}
 use Rattle.xt_special.specs.Timers.{after_tick}
 use Rattle.xt_special.specs.Interrupts.{after_interrupt, pending_of}
 use Rattle.xt_special.specs.Exceptions.{after_exception}
 use Rattle.xt_trace.specs.declared.record.RegWrite.{RegWrite}
 use Rattle.xt_trace.specs.declared.record.StepKind.{StepKind}
 use Rattle.xt_trace.specs.declared.record.StepKind.TheVariants as kind
-use Rattle.xt_trace.specs.declared.record.StepRecord.{StepRecord}
 use Rattle.xt_fetch.specs.Code.{AreBytes}
 use Rattle.xt_fetch.specs.Fetching.{Fetched, Fetches, Fails, SpellsNothing, fetch_at}
 use Rattle.xt_fetch.proofs.Fetches.{fetched_range}
@@ -23,13 +19,12 @@ use Rattle.xt_rows.specs.declared.outcome.WindowStep.{WindowStep}
 use Rattle.xt_rows.specs.declared.outcome.WindowStep.TheVariants.{Enters, Returns}
 use Rattle.xt_rows.specs.declared.outcome.Outcome.{Outcome}
 use Rattle.xt_rows.specs.declared.outcome.Outcome.TheVariants.{Does, Raises, Asks, Stops, Windowed}
-use Rattle.xt_rows.specs.Effects.{fetch_error, illegal_instruction, write_to}
+use Rattle.xt_rows.specs.Effects.{fetch_error, illegal_instruction}
 use Rattle.xt_rows.specs.Outcomes.{outcome_at}
 use Rattle.xt_rows.specs.Settling.{Executed, Kind, Raised, Settled, Stopped, Taken, Waited, after_effect, after_flow, return_pc, after_outcome, settled_exception, settled_interrupt, settled_wait, without_access, write_with_reply}
-use Rattle.xt_frames.specs.declared.holes.Nested.{Nested}
 use Rattle.xt_frames.specs.Frames.{Frame, FrameState, value_or_zero, seen_after_call, seen_after_return, seen_after_write}
 use Rattle.xt_frames.specs.FrameStep.{FrameTurn, done_in_frame, fetched_step, in_frame, step_with_inputs, return_in_frame, return_to_frame, entry_in_frame, exception_in_frame, windowed_in_frame}
-use Rattle.xt_timeless.specs.Time.{fetches_time, reads_time, timer_bits}
+use Rattle.xt_timeless.specs.Time.{fetches_time, timer_bits}
 use Rattle.xt_timeless.specs.Alike.{AreAlike}
 use Rattle.xt_timeless.proofs.Keeping.{IsKept, kept, kept_effect, kept_exception, kept_flow, kept_interrupt, kept_pending, kept_tick, sets_alike, with_special}
 use Rattle.xt_timeless.proofs.Same.{AreAlikeOutcomes, outcomes_alike}

@@ -1,5 +1,5 @@
 -- The verdict on a run is its first breach.
-use Rattle.std.proofs.Common.{◌≡◌, ℕ, Bool, true, false, Option, Some, None, refl, sym, ap, ◌∙◌, subst}
+use Rattle.std.proofs.Common.{◌≡◌, ℕ, Bool, true, false, Option, Some, None, refl, ap, ◌∙◌, subst}
 use Rattle.std.specs.Prelude.{option_map, slice_get}
 use Rattle.xt_image.specs.declared.image.Image.{Image}
 use Rattle.xt_trace.specs.declared.options.Options.{Options}
@@ -7,7 +7,6 @@ use Rattle.xt_trace.specs.declared.run.Run.{Run}
 use Rattle.xt_search.specs.Worlds.{IsOrder}
 use Rattle.xt_core.specs.Runs.{IsRunOf, code_of, records_of}
 use Rattle.xt_frames.specs.declared.kinds.Breach.{Breach}
-use Rattle.xt_frames.specs.declared.kinds.Judged.{Judged}
 use Rattle.xt_frames.specs.declared.kinds.Judged.TheVariants as judged
 use Rattle.xt_frames.specs.FirstBreach.{IsFirstBreach, IsJudgement}
 use Rattle.xt_frames.specs.Verdict.{Judgement, verdict, verdict_on}

@@ -1,6 +1,5 @@
 -- Along the schedule of a run a core goes on alone up to its next access, but for the turns after the last accesses.
-use Rattle.std.proofs.Common.{◌≡◌, ℕ, zero, suc, ◌+◌, ◌-◌, ◌<◌, ◌≤◌, Bool, true, false, cond, not, eqb, Option, Some, None, List, [], ◌∷◌, ◌++◌, length, replicate, refl, sym, ap, ◌∙◌, subst, arith}
-use Rattle.std.proofs.lemmas.List.{nil_from_length}
+use Rattle.std.proofs.Common.{◌≡◌, ℕ, zero, suc, ◌+◌, ◌-◌, ◌<◌, ◌≤◌, false, cond, eqb, Option, Some, None, List, [], ◌∷◌, ◌++◌, length, replicate, refl, sym, ap, ◌∙◌, subst, arith}
 use Rattle.xt_map.specs.declared.access.Access.{Access}
 use Rattle.xt_map.specs.declared.access.Entry.{Entry}
 use Rattle.xt_map.specs.History.{IsOfCores, calls_of}
@@ -9,7 +8,6 @@ use Rattle.xt_trace.specs.Chip.{Chip}
 use Rattle.xt_trace.specs.Schedule.{cores_of, place_before, places_from, schedule_from}
 use Rattle.xt_trace.specs.Walks.{IsWalk, next_record}
 use Rattle.xt_trace.specs.Worlds.{Core, World, give}
-use Rattle.xt_frames.specs.declared.kinds.Breach.{Breach}
 use Rattle.xt_frames.specs.Breaches.{Bounds}
 use Rattle.xt_frames.specs.Judging.{Standing}
 use Rattle.xt_frames.specs.Verdict.{Judgement, Known, judgement}

@@ -1,5 +1,5 @@
 -- No run shows a breach where no scene does.
-use Rattle.std.proofs.Common.{◌≡◌, ℕ, zero, suc, ◌<◌, Bool, true, false, None, List, [], ◌∷◌, ◌++◌, length, refl, sym, ap, ◌∙◌, subst}
+use Rattle.std.proofs.Common.{◌≡◌, ℕ, ◌<◌, Bool, true, false, None, List, [], ◌∷◌, ◌++◌, length, refl, sym, ap, ◌∙◌, subst}
 use Rattle.std.proofs.lemmas.Bool.{true≢false}
 use Rattle.xt_trace.specs.Chip.{Chip}
 use Rattle.xt_trace.specs.Calls.{calls_in}
@@ -13,7 +13,6 @@ use Rattle.xt_trace.specs.Short.{short_run, short_trace}
 use Rattle.xt_trace.specs.Traces.{Traced}
 use Rattle.xt_trace.proofs.Short.{HasPlaces, run_has_places}
 use Rattle.xt_trace.proofs.Walks.{own_walk}
-use Rattle.xt_fetch.specs.Code.{AreBytes}
 use Rattle.xt_exec.specs.Chips.{processor}
 use Rattle.xt_exec.specs.State.{State}
 use Rattle.xt_frames.specs.Breaches.{Bounds}

@@ -13,3 +13,7 @@ pub mod Timeless
 pub mod Scenes
 pub mod Orders
 pub mod Laws
+pub mod OrderText
+pub mod RaceLines
+pub mod FrameLines
+pub mod OutcomesText

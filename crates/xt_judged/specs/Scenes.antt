@@ -1,8 +1,7 @@
 -- Carries a proof; nothing that a reader must believe.
 -- Two cores, what memory holds, and what the judge knows of them; and a turn of one of them.
-use Rattle.std.specs.Prelude.{ℕ, zero, suc, Bool, true, false, ◌==◌, ◌&&◌, ◌||◌, not, if◌then◌else◌}
+use Rattle.std.specs.Prelude.{ℕ, zero, suc, Bool, false, ◌==◌, ◌&&◌, ◌||◌, not, if◌then◌else◌}
 use Rattle.std.specs.Prelude.{Option, Some, None, List, [], ◌∷◌, is_some}
-use Rattle.xt_map.specs.declared.access.Access.{Access}
 use Rattle.xt_trace.specs.declared.record.StepRecord.{StepRecord}
 use Rattle.xt_trace.specs.Chip.{Chip}
 use Rattle.xt_trace.specs.Worlds.{answer}
@@ -14,8 +13,7 @@ use Rattle.xt_frames.specs.Breaches.{Bounds}
 use Rattle.xt_frames.specs.Judging.{Standing, Seen, Handled, Judges, Breaks, seen_record}
 use Rattle.xt_frames.specs.Judging.{opening_standing}
 use Rattle.xt_judged.specs.Alone.{is_other, only_after}
-use Rattle.xt_exec.specs.Chips.{processor}
-use Rattle.xt_outcomes.specs.Spots.{Side, Spot, side_bars, side_of, spot_past}
+use Rattle.xt_outcomes.specs.Spots.{Spot, side_bars, side_of, spot_past}
 use Rattle.xt_judged.specs.Timeless.{frame_uses_time}
 
 -- a breach: its kind, and the core and the address of the turn that shows it

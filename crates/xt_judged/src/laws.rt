@@ -1,5 +1,8 @@
-//! Laws of every order as the judge sees it. Each is the contract of a function that does nothing.
+//! Laws of every order as the judge sees it, and of what is printed of all orders. Each is the contract of a
+//! function that does nothing.
 ghost use Rattle.xt_judged.specs.Laws.{AllAreWholeWhereNoSceneBreaks, NoneBreaksWhereNoSceneDoes, NoneBreaksWithoutTime};
+ghost use Rattle.xt_judged.specs.OrderText.{RowsMakeTheOrder};
+ghost use Rattle.xt_judged.specs.RaceLines.{PrintsAsTrace};
 
 /// If no scene that turns lead to shows a breach, no run of the opening shows one.
 #[tactic(auto, using(crate::proofs::Whole::none_breaks))]
@@ -19,4 +22,16 @@ pub fn none_breaks_without_time()
 #[tactic(auto, using(crate::proofs::Whole::all_are_whole))]
 pub fn all_are_whole_where_no_scene_breaks()
     ensures { AllAreWholeWhereNoSceneBreaks }
+{}
+
+/// The rows that are printed of an order have its turns, one by one.
+#[tactic(auto, using(crate::proofs::Rows::rows_make))]
+pub fn rows_make_the_order()
+    ensures { RowsMakeTheOrder }
+{}
+
+/// The line of a turn that makes an access is the one that `trace` prints of it.
+#[tactic(auto, using(crate::proofs::Windows::prints_as_trace))]
+pub fn race_lines_are_of_trace()
+    ensures { PrintsAsTrace }
 {}

@@ -1,10 +1,12 @@
-//! What is judged of the runs of a program of two cores, in any order of their turns.
+//! What is judged of the runs of a program of two cores, in any order of their turns, and what is printed of
+//! everything that can come out of it.
 #![tactic(auto)]
 
 mod answer;
 mod bytes;
 mod clock;
 mod confirming;
+mod frame_lines;
 mod frames;
 mod gone;
 mod judging;
@@ -12,14 +14,13 @@ pub mod laws;
 mod live;
 mod moved;
 mod opening;
+mod order_rows;
+mod outcome_lines;
+mod race_lines;
 mod record;
 mod scene;
 mod seeing;
 mod stale;
+mod texts;
 
-pub use answer::{Answer, FoundBreach, Search, frames_of};
-pub use frames::{Frames, OrderBreach, judge_orders};
-pub use judging::{Desk, Judging};
-pub use opening::open;
-pub use scene::{Scene, Shown, Standing};
-pub use stale::Stale;
+pub use texts::outcomes_text;

@@ -31,9 +31,6 @@ use Rattle.xt_command_line.specs.declared.command.ProfileOptions.{ProfileOptions
 use Rattle.xt_command_line.specs.declared.command.Way.{Way}
 use Rattle.xt_command_line.specs.declared.command.Way.TheVariants as way
 use Rattle.xt_command_line.specs.declared.command.Turns.{Turns}
-use Rattle.xt_command_line.specs.declared.outcomes.OutcomeOptions.{OutcomeOptions}
-use Rattle.xt_command_line.specs.Options.{with_entry}
-use Rattle.xt_outcome_report.specs.OutcomesText.{IsAnswersText}
 use Rattle.xt_status.specs.declared.status.Status.{Status}
 use Rattle.xt_status.specs.declared.status.Status.TheVariants as status
 
@@ -75,11 +72,6 @@ IsListedBy (way.Flow o) true image bytes =
 
 abbrev pub IsListed : Listing → Image → List ℕ → Type 0
 IsListed l image bytes = IsListedBy l.way l.as_text image bytes
-
--- everything that can come out of an image in any order of the turns
-abbrev pub AreOutcomesTold : OutcomeOptions → Image → List ℕ → Type 0
-AreOutcomesTold o image bytes =
-    IsAnswersText image (with_entry o.run image.entry) o.timed o.words o.states bytes
 
 -- the recording, in version 2, of the run that a recording holds
 unfoldable pub migrated_recording : List ℕ → List ℕ

@@ -1,19 +1,17 @@
-//! The commands `dis`, `check` and `outcomes`.
+//! The commands `dis` and `check`.
 ghost use Rattle.std.specs.Prelude.{◌≡◌, ◌≢◌, ◌≤◌, ◌%◌, length, IfOk, IfErr, Some};
 ghost use Rattle.xt_image.specs.Format.{image_of};
 ghost use Rattle.xt_image.specs.ImageParts.{IsWellFormed};
 ghost use Rattle.xt_report.specs.Checks.{check_text};
 ghost use Rattle.xt_status.specs.Inputs.{image_refusal};
-ghost use Rattle.xt_command_line.specs.Outcomes.{AreOutcomeOptions};
-ghost use Rattle.xt_tools.specs.Commands.{AreOutcomesTold, IsListed, IsMade};
+ghost use Rattle.xt_tools.specs.Commands.{IsListed, IsMade};
 
 use std::alloc::{AllocError, Global};
-use xt_command_line::{Listing, OutcomeOptions, Way};
+use xt_command_line::{Listing, Way};
 use xt_disasm::listing;
 use xt_flow::{flow_listing, flow_source, source};
-use xt_image::{Image, well_formed_by_rules};
+use xt_image::Image;
 use xt_map::Text;
-use xt_outcome_report::outcomes_text;
 use xt_report::check_text;
 use xt_status::{Status, image_in};
 
@@ -56,27 +54,4 @@ pub fn check(alloc: Global, vecbase: u32, input: &[u8]) -> Result<Text, Status>
 {
     let image = image_in(alloc, input)?;
     check_text(alloc, &image, vecbase).map_err(|_| Status::Memory)
-}
-
-// The text of everything that can come out of an image.
-fn all_outcomes(alloc: Global, options: &OutcomeOptions, image: &Image) -> Result<Text, AllocError>
-    requires image { IsWellFormed image.now }
-    requires options { AreOutcomeOptions options.now }
-    ensures { IfOk result (λ text. AreOutcomesTold options.now image.now text) }
-{
-    well_formed_by_rules();
-    let run = options.run.with_entry(image.entry);
-    let addresses = options.words.as_slice();
-    outcomes_text(alloc, image, &run, options.timed, addresses, options.states)
-}
-
-/// Everything that can come out of an image in any order of the turns, or the status of the image's first fault.
-pub fn outcomes(alloc: Global, options: &OutcomeOptions, input: &[u8]) -> Result<Text, Status>
-    requires limit { length input.now ≤ 8388608 }
-    requires options { AreOutcomeOptions options.now }
-    ensures ok { IfOk result (λ bytes. IsMade (image_refusal input.now) (AreOutcomesTold options.now (image_of input.now) bytes)) }
-    ensures refused { IfErr result (λ status. status ≢ Status.Memory → image_refusal input.now ≡ Some status) }
-{
-    let image = image_in(alloc, input)?;
-    all_outcomes(alloc, options, &image).map_err(|_| Status::Memory)
 }

@@ -6,6 +6,6 @@ mod recordings;
 mod texts;
 mod turns;
 
-pub use images::{check, list, outcomes};
+pub use images::{check, list};
 pub use recordings::{counts, events, migrate, profile, race, trace, uses};
 pub use texts::{ELF_LIMIT, TEXT_LIMIT, converted_file, image_file, map_text};

@@ -1,4 +1,4 @@
-use Rattle.std.proofs.Common.{◌≡◌, ℕ, ◌<◌, List, length, sym, subst}
+use Rattle.std.proofs.Common.{ℕ, ◌<◌, List, length, sym, subst}
 use Rattle.std.specs.Prelude.{slice_index_or}
 use Rattle.xt_judged.proofs.Confirmed.{all_cores}
 use Rattle.xt_judged.proofs.confirming.is_real.Goals as goal

@@ -1,4 +1,0 @@
-pub mod Orders
-pub mod RaceLines
-pub mod FrameLines
-pub mod OutcomesText
