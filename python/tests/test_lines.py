@@ -171,6 +171,8 @@ class Lines(unittest.TestCase):
             with self.subTest(line):
                 self.assertIsNone(lines.read(line))
                 self.assertIsNone(lines.json_of(line))
+                parts = list(lines.json_parts(io.BytesIO(line.encode() + b"\n")))
+                self.assertIsNone(parts[0][0][1])
 
     def test_lines_of_all_cases(self) -> None:
         """Each line that a case says is known, and its object and its JSON are the same."""

@@ -270,7 +270,9 @@ class Adapter:
             body, after = do(self, asked.get("arguments") or {})
             self.wire.write(**head, success=True, body=body)
         except (Refused, XtError, ValueError, KeyError, OSError) as fault:
-            text = str(fault) if isinstance(fault, (Refused, OSError)) else f"xt: {fault}"
+            text = f"xt: {fault}" if isinstance(fault, XtError) else str(fault)
+            if isinstance(fault, KeyError):
+                text = f"the request has no {text}"
             error = {"id": getattr(fault, "code", 1), "format": text, "showUser": True}
             self.wire.write(**head, success=False, message=text, body={"error": error})
         try:
