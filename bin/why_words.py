@@ -224,7 +224,7 @@ def part(it: Object) -> str:
     size = it["last"] + 1 - it["first"]
     text = "the frame of %s has %d bytes, %s" % (it["function"], size, span)
     if it["variable"]:
-        name, size, far = (it["variable"][name] for name in ("name", "bytes", "below"))
+        name, size, far = (it["variable"][name] for name in ("name", "bytes", "offset"))
         variable = "%s, %d bytes," % (name, size) if size else name
         text += "; %s begins %s" % (variable, "%d below" % far if far else "there")
     return text

@@ -188,15 +188,16 @@ class Images(unittest.TestCase):
         self.assertEqual([it["verified"] for it in found["breakpoints"]], [True])
         self.assertEqual(client.moved("continue", threadId=1), ("breakpoint", 1))
         frames = client.frames()
-        self.assertEqual([client.pc(), len(frames)], [0x400D0018, 11])
+        self.assertEqual([client.pc(), len(frames)], [0x400D0018, 10])
         # docs/PYTHON.md: there the position is 70, and the innermost frame lies at 3FFF7E80.
         self.assertEqual(client.good("evaluate", expression="a1")["result"], "3FFF7E80")
         outer = client.scope("Frame", frames[1]["id"])
         self.assertEqual(outer["sp"], "3FFF7EA0")
-        self.assertEqual(client.moved("stepOut", threadId=1), ("step", 1))
-        self.assertEqual(len(client.frames()), 10)
+        # It returns to a RETW at the same address, which is the next breakpoint.
+        self.assertEqual(client.moved("stepOut", threadId=1), ("breakpoint", 1))
+        self.assertEqual(len(client.frames()), 9)
         self.assertEqual(client.moved("reverseContinue", threadId=1), ("breakpoint", 1))
-        self.assertEqual([client.pc(), len(client.frames())], [0x400D0018, 11])
+        self.assertEqual([client.pc(), len(client.frames())], [0x400D0018, 10])
         client.good("setInstructionBreakpoints", breakpoints=[])
         said = client.good("evaluate", expression="frames 0", context="repl")["result"]
         self.assertEqual(said, "frames 0 depth 10")
@@ -319,7 +320,7 @@ class Sources(unittest.TestCase):
         self.assertEqual(self.client.moved("reverseContinue", threadId=1), ("breakpoint", 1))
         self.client.good("setFunctionBreakpoints", breakpoints=[])
         self.client.moved("continue", threadId=1)
-        self.assertEqual(self.client.sent(), "CA")
+        self.assertEqual(self.client.sent(), "CA\n")
 
 
 if __name__ == "__main__":

@@ -316,7 +316,7 @@ def plain_json(parts: tuple[str, ...]) -> Optional[str]:
         end = f'{begin}{int(access[4:12], 16)}, "{name}": {int(data, 16)}}}'
     try:
         return (
-            f'{{"line": "turn", "core": {core}, "step": {step}, "pc": {int(pc, 16)},'
+            f'{{"line": "turn", "core": {core}, "step": {step}, "pc": {WORDS[pc]},'
             f' "event": "insn"{write}{end}{TAILS[tail] if tail else "}"}'
         )
     except KeyError:
@@ -546,13 +546,13 @@ def objects(source: BinaryIO) -> Iterator[tuple[str, Optional[Object]]]:
             yield line, it if is_alone else read(line)
 
 
-def json_parts(source: BinaryIO) -> Iterator[list[tuple[str, Optional[str]]]]:
-    """The same with JSON, in lists, as much at a time as has come."""
+def json_parts(source: BinaryIO) -> Iterator[tuple[list[str], list[Optional[str]]]]:
+    """The same with JSON, as much at a time as has come: lines, and what each is."""
     for lines, is_alone, it in Parts(source):
         if is_alone:
-            yield [(lines[0], None if it is None else json.dumps(it))]
+            yield lines, [None if it is None else json.dumps(it)]
         else:
-            yield list(zip(lines, map(plain_json, PLAIN("\n".join(lines)))))
+            yield lines, list(map(plain_json, PLAIN("\n".join(lines))))
 
 
 def whole(lines: Iterable[tuple[str, Optional[Object]]]) -> Iterator[Object]:

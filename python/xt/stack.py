@@ -139,7 +139,8 @@ def told(names: Names, calls: Sequence[Call]) -> list[Told]:
     # instruction.
     found = names.lines([it.pc - 1 if it.back else it.pc for it in shown])
     if found and not found[0][0].place:
-        found[:1] = names.lines([shown[0].pc + 3])
+        after = names.lines([shown[0].pc + 3])
+        found[:1] = after if after[0][0].place else found[:1]
     return [
         Told(place, names.source(place.place), it.pc, it.sp)
         for it, places in zip(shown, found)

@@ -131,12 +131,13 @@ class Walker:
                 return True
             if turn["core"] != core:
                 continue
-            pc, text = turn["pc"], turn.get("instruction", "")
-            if not is_first and not self.is_handler(pc) and wanted(pc, depth):
+            pc, is_entry = turn["pc"], turn.get("instruction", "").startswith("entry ")
+            # At its ENTRY a function's own frame is still to be made.
+            if is_first:
+                depth = -is_entry
+            elif not self.is_handler(pc) and wanted(pc, depth + is_entry):
                 self.session.position = position
                 return True
-            if is_first and text.startswith("entry "):
-                depth = -1  # the function's own frame is still to be made
             is_first = False
             depth += called(turn)
         return False
