@@ -30,7 +30,8 @@ class Wrapper(unittest.TestCase):
             raise unittest.SkipTest("bin/xt runs another program than the one that is asked")
 
     def test_faults(self) -> None:
-        """docs/STATUS.md: the faults of `bad.s`, in lines 3 and 4; alone, and behind another file."""
+        """docs/STATUS.md: the faults of `bad.s`, in lines 3 and 4; alone and behind another file.
+        """
         with tempfile.TemporaryDirectory() as folder:
             bad, good = Path(folder) / "bad.s", Path(folder) / "good.s"
             bad.write_text(BAD, encoding="utf-8")

@@ -546,7 +546,8 @@ class Adapter:
             core = self.frame(asked["frameId"])[0]
         found = self.value(core, text)
         if found:
-            return {"result": found["value"], "variablesReference": 0, **found}, None
+            result = found.pop("value")
+            return {**found, "result": result}, None
         if asked.get("context") != "repl":
             raise Refused(f"{text} is no register, no name and no address")
         return self.console(core, text)
