@@ -62,15 +62,18 @@ class Wire:
         self.source, self.sink, self.number = source, sink, 0
 
     def read(self) -> Optional[Object]:
-        """The next message, None at the end of the input."""
+        """The next message; None at the end of the input, or if what comes is none."""
         length = None
         while line := self.source.readline():
             name, _, value = line.partition(b":")
             if name.strip().lower() == b"content-length" and value.strip().isdigit():
                 length = int(value)
             elif not line.strip() and length is not None:
-                data = self.source.read(length)
-                return json.loads(data) if len(data) == length else None
+                try:
+                    message = json.loads(self.source.read(length))
+                except ValueError:
+                    return None
+                return message if isinstance(message, dict) else None
         return None
 
     def write(self, **message: Any) -> None:
@@ -262,25 +265,27 @@ class Adapter:
         """Answers a request, and does what comes after the answer."""
         command = str(asked.get("command"))
         head = {"type": "response", "request_seq": asked.get("seq"), "command": command}
-        do = REQUESTS.get(command)
-        after: Optional[Callable[[], None]] = None
         try:
-            if do is None:
+            if command not in REQUESTS:
                 raise Refused(f"there is no request {command} here")
-            body, after = do(self, asked.get("arguments") or {})
-            self.wire.write(**head, success=True, body=body)
-        except (Refused, XtError, ValueError, KeyError, OSError) as fault:
-            text = f"xt: {fault}" if isinstance(fault, XtError) else str(fault)
-            if isinstance(fault, KeyError):
-                text = f"the request has no {text}"
-            error = {"id": getattr(fault, "code", 1), "format": text, "showUser": True}
-            self.wire.write(**head, success=False, message=text, body={"error": error})
+            body, after = REQUESTS[command](self, asked.get("arguments") or {})
+        except (Refused, XtError, ValueError, OSError) as fault:
+            self.refuse(head, f"xt: {fault}" if isinstance(fault, XtError) else str(fault))
+            return
+        except (KeyError, TypeError, AttributeError) as fault:
+            self.refuse(head, f"the request lacks a field, or has another kind of it: {fault}")
+            return
+        self.wire.write(**head, success=True, body=body)
         try:
             if after:
                 after()
         except XtError as fault:
             self.event("output", category="stderr", output=f"xt: {fault}\n")
             self.event("terminated")
+
+    def refuse(self, head: Object, text: str) -> None:
+        error = {"id": 1, "format": text, "showUser": True}
+        self.wire.write(**head, success=False, message=text, body={"error": error})
 
     def event(self, name: str, **body: Any) -> None:
         self.wire.write(type="event", event=name, body=body)
