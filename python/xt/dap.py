@@ -303,7 +303,7 @@ class Adapter:
             raise Refused(f"there is no thread {core + 1}")
         return core
 
-    # ---- From the begin to the end.
+    # ---- From the first request to the last.
 
     def initialize(self, asked: Object) -> Answer:
         filters = [

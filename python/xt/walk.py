@@ -166,8 +166,8 @@ class Walker:
         return self.ahead(core, lambda pc, depth: depth < 0)
 
     def back_line(self, core: int) -> bool:
-        """Goes back to the begin of this line, or if it is there to that of the line before it, in
-        this function or in its caller; without lines to the instruction before."""
+        """Goes back to the beginning of this line, or if it is there to that of the line before
+        it, in this function or in its caller; without lines to the instruction before."""
         depth, line, most, found = 0, Place("", ""), 0, None
         if self.state(core).text.startswith("entry "):
             most = 1
@@ -220,7 +220,7 @@ class Walker:
         return hit
 
     def backward(self, stops: Stops) -> Optional[Hit]:
-        """Goes back to the stop before here; without one to the begin of the run."""
+        """Goes back to the stop before here; without one to the beginning of the run."""
         start = self.session.position
         points = [it for it in stops.points if it.position < start]
         hit = max(points, key=lambda it: it.position, default=None)
