@@ -497,7 +497,9 @@ class Adapter:
         core = self.core(asked)
         state = self.run.walker.state(core)
         rows: list[Object] = []
-        told = stack.told(self.run.names, state.calls(core))
+        pc = state.cores[core].pc
+        alone = stack.Told(self.run.walker.place_of(pc), "", pc, None)
+        told = stack.told(self.run.names, state.calls(core)) or [alone]
         for it in told:
             self.frames.append((core, it, (it.pc, it.sp) == (told[0].pc, told[0].sp)))
             row = {"id": len(self.frames), "name": it.place.function, "column": 0,
