@@ -1,10 +1,12 @@
-"""What bin/xt itself says for programs: faults of a text as objects, and failing devices. It runs
-the program of this clone, so it is left out if that is another than the one which is asked."""
+"""What bin/xt itself says for programs: faults of a text as objects, and failing devices, also
+those of the other scripts. bin/xt runs the program of this clone, so its tests are left out if that
+is another than the one which is asked."""
 from __future__ import annotations
 
 import json
 import os
 import subprocess
+import sys
 import tempfile
 import unittest
 from pathlib import Path
@@ -67,6 +69,25 @@ class Wrapper(unittest.TestCase):
         done = run(*words, environment=environment)
         self.assertEqual((done.returncode, done.stdout), (70, b""))
         self.assertIn(b"no temporary folder can be made in /nonexistent", done.stderr)
+
+
+class Scripts(unittest.TestCase):
+    def test_full_device(self) -> None:
+        """A script whose output cannot be written ends as xt does."""
+        request = b'{"seq":1,"type":"request","command":"initialize"}'
+        image, recording = (str(TOP / f"examples/letter.{it}") for it in ("bin", "rec"))
+        asked: tuple[tuple[list[str], bytes], ...] = (
+            (["why", image, "--turns1", "0"], b""), (["why", "--json", image], b""),
+            (["page", recording], b""), (["json"], b"history 1\n"),
+            (["debug", recording], b"regs\n"),
+            (["dap"], b"Content-Length: %d\r\n\r\n" % len(request) + request))
+        environment = {**os.environ, "XT": os.path.abspath(program().path)}
+        for words, data in asked:
+            with self.subTest(words), open("/dev/full", "wb") as full:
+                done = subprocess.run(
+                    [sys.executable, str(TOP / "bin" / words[0]), *words[1:]], input=data,
+                    stdout=full, stderr=subprocess.PIPE, env=environment, check=False)
+                self.assertEqual((done.returncode, done.stderr), (6, b"xt: WriteFault\n"))
 
 
 if __name__ == "__main__":
