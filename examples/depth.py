@@ -17,8 +17,10 @@ def main(path, picture=None):
     turns = xt.Run(path, turns1=0).trace(core=0, frames=True)
     depths = [turn.frames.depth if turn.frames else 0 for turn in turns]
     if picture:
-        from matplotlib import pyplot
-
+        try:
+            from matplotlib import pyplot
+        except ImportError:
+            raise SystemExit("depth.py: there is no matplotlib; without PICTURE it draws with letters") from None
         pyplot.step(range(len(depths)), depths)
         pyplot.xlabel("step of core 0")
         pyplot.ylabel("calls")

@@ -171,6 +171,8 @@ class Lines(unittest.TestCase):
             with self.subTest(line):
                 self.assertIsNone(lines.read(line))
                 self.assertIsNone(lines.json_of(line))
+                parts = list(lines.json_parts(io.BytesIO(line.encode() + b"\n")))
+                self.assertEqual(parts, [([line], [None])])
 
     def test_lines_of_all_cases(self) -> None:
         """Each line that a case says is known, and its object and its JSON are the same."""
@@ -179,7 +181,7 @@ class Lines(unittest.TestCase):
             for case in cases(file):
                 for part in ("output", "trace", "lines", "verdict"):
                     text = case.get(part, "").encode()
-                    made = [it for rows in lines.json_parts(io.BytesIO(text)) for _, it in rows]
+                    made = [it for _, part in lines.json_parts(io.BytesIO(text)) for it in part]
                     for (line, it), again in zip(lines.objects(io.BytesIO(text)), made):
                         count += bool(line)
                         if line:
@@ -194,7 +196,7 @@ class Texts(unittest.TestCase):
 
     def objects(self, text: bytes) -> list[object]:
         found = list(lines.objects(io.BytesIO(text)))
-        parts = [it for part in lines.json_parts(io.BytesIO(text)) for it in part]
+        parts = [it for part in lines.json_parts(io.BytesIO(text)) for it in zip(*part)]
         self.assertEqual([(line, it and json.loads(it)) for line, it in parts], found)
         return [it for _, it in found]
 

@@ -294,6 +294,33 @@ class TurnForm(Form):
 
 CORES = ("0", "1")
 NUMBERS = Kept(int, NUMBER)
+# Of each line of a text the parts of a turn that executed an instruction, without a compare-and-swap; or, as the
+# last part, the line if it is another.
+PLAIN = re.compile(
+    rf"^(?:([01]) ({NUMBER}) ({WORD}) insn(?: a({NUMBER})=({WORD}))?"
+    rf"(?: (ld[124] {WORD} ->|st[124] {WORD}) ({WORD}))?(?: \| (.+))?|(.*))$",
+    re.ASCII | re.MULTILINE,
+).findall
+
+
+def plain_json(parts: tuple[str, ...]) -> Optional[str]:
+    """The JSON of a line, by its parts."""
+    core, step, pc, register, value, access, data, tail, other = parts
+    if not core:
+        return json_of(other)
+    write = end = ""
+    if register:
+        write = f', "write": {{"register": {register}, "value": {int(value, 16)}}}'
+    if access:
+        begin, name, _ = ACCESSES[access[:3]]
+        end = f'{begin}{int(access[4:12], 16)}, "{name}": {int(data, 16)}}}'
+    try:
+        return (
+            f'{{"line": "turn", "core": {core}, "step": {step}, "pc": {WORDS[pc]},'
+            f' "event": "insn"{write}{end}{TAILS[tail] if tail else "}"}'
+        )
+    except KeyError:
+        return None
 
 
 # ---- The forms of a line by its first word. The first that fits counts.
@@ -519,13 +546,13 @@ def objects(source: BinaryIO) -> Iterator[tuple[str, Optional[Object]]]:
             yield line, it if is_alone else read(line)
 
 
-def json_parts(source: BinaryIO) -> Iterator[list[tuple[str, Optional[str]]]]:
-    """The same with JSON, in lists, as much at a time as has come."""
+def json_parts(source: BinaryIO) -> Iterator[tuple[list[str], list[Optional[str]]]]:
+    """The same with JSON, as much at a time as has come: lines, and what each is."""
     for lines, is_alone, it in Parts(source):
         if is_alone:
-            yield [(lines[0], None if it is None else json.dumps(it))]
+            yield lines, [None if it is None else json.dumps(it)]
         else:
-            yield list(zip(lines, map(json_of, lines)))
+            yield lines, list(map(plain_json, PLAIN("\n".join(lines))))
 
 
 def whole(lines: Iterable[tuple[str, Optional[Object]]]) -> Iterator[Object]:

@@ -3,9 +3,11 @@ read from the registers, the ring and the save areas. So they may be wrong in a 
 broken its stack."""
 from __future__ import annotations
 
+from dataclasses import dataclass
 from typing import NamedTuple, Optional, Sequence
 
-from .names import Names
+from .lines import Object
+from .names import Names, Place
 from .report import kind
 from .session import MOST, Session, calls_of, registers_of
 from .turns import Turn
@@ -109,9 +111,25 @@ class State:
 # ---- Calls in words.
 
 
-def told(names: Names, calls: Sequence[Call]) -> list[dict[str, Optional[str]]]:
-    """Calls with function, line, its text, and addresses, without calls by the start-up code and
-    below."""
+@dataclass(frozen=True)
+class Told:
+    """A call with its names: where it is, the text of that line, its address and its stack pointer,
+    None before its ENTRY."""
+
+    place: Place
+    text: str
+    pc: int
+    sp: Optional[int]
+
+    @property
+    def fields(self) -> Object:
+        """The same as an object of docs/FORMATS.md."""
+        return {**self.place.fields, "text": self.text or None, "pc": self.pc, "sp": self.sp}
+
+
+def told(names: Names, calls: Sequence[Call]) -> list[Told]:
+    """Calls with names and lines, without calls by the start-up code and below. A call that the
+    compiler put in place of a function's code has several."""
     shown: list[Call] = []
     for it in calls:
         if it.pc & ADDRESS == 0 or (shown and names.of(it.pc)[0] in STARTS):
@@ -121,33 +139,30 @@ def told(names: Names, calls: Sequence[Call]) -> list[dict[str, Optional[str]]]:
     # instruction.
     found = names.lines([it.pc - 1 if it.back else it.pc for it in shown])
     if found and not found[0][0].place:
-        found[:1] = names.lines([shown[0].pc + 3])
+        after = names.lines([shown[0].pc + 3])
+        found[:1] = after if after[0][0].place else found[:1]
     return [
-        {
-            "function": place.function, "place": place.place, "text": names.source(place.place),
-            "pc": f"{it.pc:08X}", "sp": None if it.sp is None else f"{it.sp:08X}",
-        }
+        Told(place, names.source(place.place), it.pc, it.sp)
         for it, places in zip(shown, found)
         for place in places
     ]
 
 
-def shown(calls: Sequence[dict[str, Optional[str]]], effect: str = "") -> list[str]:
+def shown(calls: Sequence[Told], effect: str = "") -> list[str]:
     """The lines that show calls, with what the step does behind the innermost. A function that
     calls itself from the same line has one line."""
-    short = [(it["place"] or "").rpartition("/")[2] for it in calls]
-    wide = max([len(it["function"] or "") for it in calls] or [0]) + 2
-    far = max([len(it) for it in short] or [0]) + 2
+    wide = max([len(it.place.function) for it in calls] or [0]) + 2
+    far = max([len(it.place.short) for it in calls] or [0]) + 2
     made, number = [], 0
-    for i, (it, place) in enumerate(zip(calls, short)):
+    for i, it in enumerate(calls):
         number += 1
         following = calls[i + 1] if i + 1 < len(calls) else None
-        if i and following and all(following[part] == it[part] for part in ("function", "place")):
+        if i and following and following.place == it.place:
             continue
-        source = it["text"] or ""
+        source = it.text
         text = source if len(source) <= 72 else source[:70] + ".."
         times = f"({number} times)" if number > 1 else ""
-        line = f"          {it['function']:{wide}}{place:{far}}"
+        line = f"          {it.place.function:{wide}}{it.place.short:{far}}"
         line += "  ".join(part for part in (text, times) if part)
         if i == 0 and effect:
             line = f"{line:60}  {effect}" if source else line + effect

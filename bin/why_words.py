@@ -1,0 +1,301 @@
+"""The lines that bin/why prints of its findings, which are objects with the fields of
+docs/FORMATS.md. The words stand here alone: with --json bin/why prints the fields.
+"""
+from __future__ import annotations
+
+import json
+import os
+import re
+from typing import Optional, Sequence
+
+from xt import stack
+from xt.lines import Object
+from xt.names import Place
+
+Parts = tuple[str, Sequence[stack.Told], str, Sequence[str]]  # text, calls, last step, notes
+
+TOP = os.path.dirname(os.path.dirname(os.path.realpath(__file__)))
+LIBRARY = os.path.join(TOP, "examples/c/")
+MOST_TEXTS = 8  # of those that other orders send
+# What a step does that is a breach of this kind.
+BREACHES = {
+    "Unset": "uses a value that its function never set",
+    "SpWritten": "writes the stack pointer",
+    "FrameSize": "makes a frame that is too small for the registers that are saved in it",
+    "StackRange": "needs more stack than there is",
+    "SpAlign": "makes a stack pointer that is no multiple of 16",
+    "OpeningCall": "is an ENTRY that no call came to",
+    "ReturnMismatch": "returns by another size of call than the one that came",
+    "NoCaller": "returns, and nobody called",
+    "SaveStore": "stores where registers of a caller are saved",
+    "StaleLoad": "loads what a window handler may have left there",
+    "ExcmRegister": "names one of a4 to a15 in exception mode",
+    "WindowInstruction": "is an instruction for window handlers alone",
+    "WindowRegister": "reads or writes WINDOWBASE or WINDOWSTART",
+    "WoeCleared": "turns the windows off",
+    "VecbaseMoved": "moves the vectors",
+    "EpcLost": "reads EPC1 after a window exception may have written it",
+    "Movsp": "moves the stack pointer by MOVSP to where it may not be",
+    "VectorEntered": "goes into a window handler",
+    "Nested": "does in an interrupt inside a window handler what is not allowed there",
+}
+# What they do if nothing has to come of it.
+MOVES = {"Unset": "moves a value that its function never set", "Movsp": "moves the stack pointer"}
+SIDES = {"load": "load", "store": "store", "compare_and_swap": "exchange"}
+CAUSES = {
+    0: "no instruction of this machine",
+    1: "SYSCALL",
+    5: "MOVSP, and the caller's registers are in memory",
+    6: "a division by 0",
+}
+
+
+def named(it: Object) -> str:
+    """An address in words: its name and its digits."""
+    if not it["name"]:
+        return "%08X" % it["address"]
+    return "%s%s (%08X)" % (it["name"], "+%d" % it["offset"] if it["offset"] else "", it["address"])
+
+
+def where(place: Place) -> str:
+    """A function and its line."""
+    return " ".join([place.function, place.short]).strip()
+
+
+def finding(
+    kind: str, text: str, calls: Sequence[stack.Told] = (), effect: str = "",
+    notes: Sequence[str] = (),
+) -> list[str]:
+    """The lines of a finding: its text, the calls and the notes."""
+    head = "%-8s%s" % (kind, text)
+    return [head, *stack.shown(calls, effect), *("        " + note for note in notes)]
+
+
+def effect_of(it: Object) -> str:
+    """What the step of a finding does."""
+    access = it["access"]
+    if access is None:
+        return it["instruction"]
+    if access.kind == "store":
+        return "stores %X at %08X" % (access.value, access.address)
+    return "%s %08X" % ("loads from" if access.kind == "load" else "exchanges at", access.address)
+
+
+# ---- How a core ended.
+
+
+def end_parts(it: Object) -> Parts:
+    """Of the end of a core its text, its calls, what its last step does, and notes."""
+    end, turns = it["end"], it["turns"]
+    if end == "exit":
+        return exit_parts(it)
+    if end == "exception" and it["step"] is not None:
+        return exception_parts(it)
+    if end == "turns":
+        return waiting_parts(it)
+    if end == "abort":
+        return "ended: abort, after %d turns" % turns, it["calls"], "", ()
+    text = {
+        "idle": "makes no turns",
+        "absent": "ended: it has no main1",
+        "break": "ended: %s, after %d turns" % (it.get("instruction"), turns),
+        "exception": "ended: an exception, after %d turns" % turns,
+    }[end]
+    return text, (), "", ()
+
+
+def exit_parts(it: Object) -> Parts:
+    found = it["register"]
+    notes = []
+    if found is not None:
+        lack = "not each bit" if found["known"] else "no bit"
+        notes.append(
+            "%s of %d is known: the result of main, or the number of exit, was never set"
+            % (lack, it["code"])
+        )
+        notes += origin(found)
+    return "ended: exit(%d), after %d turns" % (it["code"], it["turns"]), (), "", notes
+
+
+def exception_parts(it: Object) -> Parts:
+    cause, text, address = it["cause"], it["instruction"] or "", it["address"]
+    what = CAUSES.get(cause, "")
+    if cause == 3:
+        side = "store to" if re.match("s(8|16|32)", text) else "load from"
+        what = "%s %08X, no memory there" % (side, address)
+    elif cause == 9:
+        what = "%08X is no multiple of the access's size" % address
+    elif cause == 2:
+        what = "no code at %08X" % address
+    said = "ended: exception, cause %d (%s), at step %d" % (cause, what, it["step"])
+    return said, it["calls"], text, ()
+
+
+def waiting_parts(it: Object) -> Parts:
+    until = "; its %d turns are used up" % it["turns"]
+    if it["same_as"] is not None:
+        again = (it["turns"], it["same_as"])
+        until = " for ever: at step %d its state is that of step %d" % again
+    if not it["waits"]:
+        return "goes on" + until.replace(";", ":"), it["calls"], "", ()
+    notes = [
+        "%s %s" % (word["name"] or "%08X" % word["address"], owner(it["core"], word["last"]))
+        for word in it["waits"]
+    ]
+    text = "waits for %s%s" % (" and ".join(map(named, it["waits"])), until)
+    return text, it["calls"], "", notes
+
+
+def owner(core: int, last: Optional[Object]) -> str:
+    """Who stored into a word last, and where."""
+    if last is None:
+        return "was never stored into"
+    places = [it.place for it in last["calls"] if it.place.place]
+    library = (LIBRARY + "lib.c", LIBRARY + "include/")
+    own = [it for it in places if not it.place.startswith(library)] or places
+    chain = ", called by ".join(where(it) for it in own[:3])
+    return "was %s by core %d%s at step %d%s" % (
+        "taken" if last["exchange"] else "stored into last", last["core"],
+        " itself" if last["core"] == core else "", last["step"], ", in " + chain if chain else "")
+
+
+def ends(found: Sequence[Object]) -> list[str]:
+    """The lines on both cores: one if there is nothing to tell of either."""
+    parts = [end_parts(it) for it in found]
+    if not any(it["finding"] for it in found):
+        return ["%-52s%s" % ("core 0  " + parts[0][0], "core 1  " + parts[1][0])]
+    return [line for core, it in enumerate(parts) for line in finding("core %d" % core, *it)]
+
+
+# ---- The stack's rules and uses.
+
+
+ANSWERS = {
+    "none": "nothing is said: a window handler does not do its work (the report's line `handlers`)",
+    "whole": "whole",
+    "same": "the same",
+}
+
+
+def verdict(it: Object) -> list[str]:
+    if it["answer"] != "breach":
+        return finding(it["kind"], ANSWERS[it["answer"]])
+    name = it["breach"]
+    head = "step %d of core %d " % (it["step"], it["core"])
+    if not it["finding"]:
+        words = MOVES.get(name, BREACHES[name])
+        more = " (%s), as compiled code may; `uses` says whether it matters" % name
+        return finding(it["kind"], head + words + more)
+    words = BREACHES["StackRange"] if it["leaves_stack"] else BREACHES.get(name, "breaks a rule")
+    text = "%s%s (%s%s)" % (head, words, name, ", longjmp" if it["longjmp"] else "")
+    return finding(it["kind"], text, it["calls"], effect_of(it), breach_notes(it))
+
+
+def breach_notes(it: Object) -> list[str]:
+    """What is known besides of a breach."""
+    notes = [part(found) for found in it["bytes"]]
+    if it["pointer"]:
+        found = it["pointer"]
+        name = found["variable"]
+        of = ("%s of " % name if name else "the frame of ") + found["function"]
+        notes.append("the address comes from %s (%08X): step %d, in %s" % (
+            of, found["address"], found["step"], where(found["place"])))
+    if it["stack"]:
+        low, high, used, calls = (it["stack"][name] for name in ("low", "high", "used", "calls"))
+        notes.append(
+            "the stack of core %d is %08X to %08X; %d of its %d bytes are used, by %d calls"
+            % (it["core"], low, high - 1, used, high - low, calls))
+    notes += [line for found in it["registers"] for line in origin(found)]
+    if it["longjmp"]:
+        notes.append(
+            "setjmp and longjmp read the registers that callers have saved, which is always a breach")
+    return notes
+
+
+def part(it: Object) -> str:
+    """What bytes of memory are."""
+    if it["what"] == "gone":
+        return "%08X is below the stack pointer: of a frame that is gone" % it["address"]
+    if it["what"] == "name":
+        return named(it)
+    span = "%08X to %08X" % (it["first"], it["last"])
+    if it["what"] == "saved":
+        return "%s are for a%d to a%d of %s" % (span, *it["registers"], it["function"])
+    size = it["last"] + 1 - it["first"]
+    text = "the frame of %s has %d bytes, %s" % (it["function"], size, span)
+    if it["variable"]:
+        name, size, far = (it["variable"][name] for name in ("name", "bytes", "offset"))
+        variable = "%s, %d bytes," % (name, size) if size else name
+        text += "; %s begins %s" % (variable, "%d below" % far if far else "there")
+    return text
+
+
+def origin(it: Object) -> list[str]:
+    """Where a register that is not known came from."""
+    said = "%s of a%d is known" % ("no bit" if it["known"] == 0 else "not each bit", it["register"])
+    if it["from"] is None:
+        return [said]
+    place, step = where(it["place"]), it["step"]
+    if it["from"] == "unset":
+        return ["%s: it was a%d of %s, which nothing set since step %d" % (
+            said, it["was"], place, step)]
+    if it["from"] == "left":
+        return ["%s: the return at step %d left it, in %s" % (said, step, place)]
+    if it["from"] == "made":
+        return ["%s: step %d made it, %s, in %s" % (said, step, it["instruction"], place)]
+    head = "%s: step %d loaded it from %08X, in %s" % (said, step, it["address"], place)
+    return [head, *map(part, it["bytes"])]
+
+
+# ---- Both cores, and interrupts.
+
+
+def race(it: Object) -> list[str]:
+    if it["answer"] == "none":
+        return finding("race", "none in this order")
+    first, second = it["sides"]
+    kinds = [SIDES[side["access"].kind] for side in it["sides"]]
+    lines = finding("race", "%s by core %d and %s by core %d, and nothing orders them: %s" % (
+        kinds[0], first["core"], kinds[1], second["core"], named(it)))
+    for side in it["sides"]:
+        lines.append("        step %d of core %d" % (side["step"], side["core"]))
+        lines += stack.shown(side["calls"], effect_of(side))
+    return lines + (orders(it["orders"]) if it["orders"] else [])
+
+
+def orders(it: Object) -> list[str]:
+    """What the program sends in other orders of the two cores' turns."""
+    if len(it["sent"]) < 2:
+        return ["        %d orders were tried, and all send the same" % it["tried"]]
+    lines = ["        in %d orders that were tried it sends:" % it["tried"]]
+    for found in it["sent"][:MOST_TEXTS]:
+        text = json.dumps(bytes.fromhex(found["hex"])[-38:].decode(errors="replace"))
+        lines.append("          %-40s  %s" % (text, " ".join(found["options"])))
+    if len(it["sent"]) > MOST_TEXTS:
+        lines.append("          and %d other texts" % (len(it["sent"]) - MOST_TEXTS))
+    return lines
+
+
+def interrupts(it: Object) -> list[str]:
+    head = " %d of core %d; " % (it["times"], it["core"])
+    if not it["lost"]:
+        return finding(
+            "interrupts", head + "none between a load and a store of bytes that it changes")
+    lines = []
+    for found in it["lost"]:
+        calls = [found["load"], found["store"]]
+        if calls[0].place.place == calls[1].place.place:
+            calls.pop()
+        lines += finding(
+            "interrupts",
+            " %d of %d of core %d came between a load and a store of %s, and what they stored there"
+            " is lost" % (found["times"], it["times"], it["core"], named(found)), calls)
+    return lines
+
+
+BY_KIND = {"stack": verdict, "uses": verdict, "race": race, "interrupts": interrupts}
+
+
+def lines_of(it: Object) -> list[str]:
+    """The lines of a finding that is no end of a core."""
+    return BY_KIND[it["kind"]](it)
