@@ -13,17 +13,13 @@ import kit
 TOP = os.path.dirname(os.path.dirname(os.path.abspath(__file__)))
 # The first line of a file of specs/ that a reader need not believe ends so.
 UNBELIEVED = "nothing that a reader must believe."
-# The calls whose contracts make each claim; `-NAME` leaves a clause out, and with `+NAME` that one alone counts, and what
-# it presumes.
+# The calls whose contracts make each claim: the crate, the module and the function.
 CLAIMS = (
-    ("one turn", (("xt_core", "cores", "turn_begin", None), ("xt_core", "cores", "turn_end", None))),
-    (
-        "a run is the image's",
-        (("xt_machine", "threads", "run", "-framed"), ("xt_machine", "scheduled", "run_schedule", "-framed")),
-    ),
-    ("windows are frames", (("xt_machine", "threads", "run", "+framed"),)),
-    ("what is not known decides nothing", (("xt_use_report", "report", "uses_of", None),)),
-    ("all of `xt_main`", (("xt_cli", "top", "xt_main", None),)),
+    ("one turn", (("xt_core", "cores", "turn_begin"), ("xt_core", "cores", "turn_end"))),
+    ("a run is the image's", (("xt_machine", "threads", "run"), ("xt_machine", "scheduled", "run_schedule"))),
+    ("windows are frames", (("xt_report", "laws", "run_is_framed"),)),
+    ("what is not known decides nothing", (("xt_use_report", "report", "uses_of"),)),
+    ("all of `xt_main`", (("xt_cli", "top", "xt_main"),)),
 )
 WORD = r"[A-Za-z_]\w*(?:\.[A-Za-z_]\w*)*"
 
@@ -211,7 +207,7 @@ def exported(crate):
         for line in lines(path) if exists(path) else ():
             found = re.match(r"(\s*)pub fn (\w+)", line)
             if found and (found[1] or names is None or found[2] in re.findall(r"\w+", names)):
-                yield crate, module, found[2], None
+                yield crate, module, found[2]
 
 
 def reached(path, texts, types=(), with_types=True):
@@ -232,16 +228,11 @@ def reached(path, texts, types=(), with_types=True):
     return found
 
 
-def counted(text, which):
-    """Whether a clause counts, where some are left out or only one is meant."""
-    return which is None or (text != which[1:] if which[0] == "-" else text in (which[1:], "image", "valid"))
-
-
 def cone(calls):
     found = {}
-    for crate, module, function, which in calls:
+    for crate, module, function in calls:
         path = f"crates/{crate}/src/{module}.rt"
-        texts = [it for label, it in clauses(path, function) if counted(label, which)]
+        texts = [it for _, it in clauses(path, function)]
         found.update(reached(path, texts, types_of(path, function)))
     return [it for it, _ in found.values()]
 
@@ -253,7 +244,7 @@ def rows():
         found = {(it.path, it.name): it for it in cone(calls)}.values()
         specs = [it for it in found if it.path.endswith(".antt")]
         types = [it for it in found if it.path.endswith(".rt")]
-        said = ", ".join(f"`{crate}::{function}`" for crate, _, function, _ in calls)
+        said = ", ".join(f"`{crate}::{function}`" for crate, _, function in calls)
         below = kit.reached((f"{TOP}/{it.path}", it.text) for it in specs)
         own = sum(it.size() for it in specs), len(specs), sum(it.size() for it in types)
         yield claim, said, *own, sum(map(len, below)), len(below)
@@ -270,7 +261,7 @@ def unbelieved():
     followed here: a value that one call makes and another takes says nothing by itself.
     """
     calls = dict.fromkeys(it for _, calls in CLAIMS for crate, *_ in calls for it in exported(crate))
-    for crate, module, function, _ in calls:
+    for crate, module, function in calls:
         if (crate, function) in INNER:
             continue
         path = f"crates/{crate}/src/{module}.rt"

@@ -13,8 +13,8 @@ use Rattle.xt_frames.specs.Verdict.{Judgement, verdict, verdict_on}
 use Rattle.xt_frames.proofs.FirstBreach.{walk_finds}
 use Rattle.xt_discipline.specs.Schedules.{schedule_in}
 use Rattle.xt_discipline.specs.Verdicts.{judgement_in, opened0, opened1}
-use Rattle.xt_machine.specs.Framed.{judgement_of}
-use Rattle.xt_machine.proofs.Judging.{judgement_is}
+use Rattle.xt_report.specs.Framed.{judgement_of}
+use Rattle.xt_report.proofs.Judging.{judgement_is}
 use Rattle.xt_judged.specs.OrderFrames.{HasTurnsOf, IsRealBreach, run_of_order}
 use Rattle.xt_judged.specs.Runs.{IsVerdictOf, are_checked, course_of, judged_of}
 use Rattle.xt_judged.specs.declared.frames.OrderBreach.{OrderBreach}

@@ -27,8 +27,8 @@ use Rattle.xt_timeless.proofs.Lists.{alike_refl}
 use Rattle.xt_outcomes.specs.Spots.{spot_in}
 use Rattle.xt_judged.specs.Laws.{AllAreWholeWhereNoSceneBreaks, NoneBreaksWhereNoSceneDoes, NoneBreaksWithoutTime}
 use Rattle.xt_judged.specs.Scenes.{Scene, opening_scene, scene_bars, scene_past, scenes_after}
-use Rattle.xt_machine.specs.Framed.{judgement_of}
-use Rattle.xt_machine.proofs.Judging.{judgement_is}
+use Rattle.xt_report.specs.Framed.{judgement_of}
+use Rattle.xt_report.proofs.Judging.{judgement_is}
 use Rattle.xt_judged.specs.Runs.{IsVerdictOf, are_checked}
 use Rattle.xt_judged.proofs.Verdicts.{verdict_is}
 use Rattle.xt_judged.proofs.Clocked as clocked

@@ -13,7 +13,7 @@ use Rattle.xt_frames.specs.FirstBreach.{Course, IsFirstBreach, by_core, turns}
 use Rattle.xt_frames.specs.Verdict.{verdict, verdict_on}
 use Rattle.xt_discipline.specs.Schedules.{schedule_in}
 use Rattle.xt_discipline.specs.Verdicts.{are_yes, opened0, opened1}
-use Rattle.xt_machine.specs.Framed.{judgement_of}
+use Rattle.xt_report.specs.Framed.{judgement_of}
 
 -- the six window handlers pass the check
 abbrev pub are_checked : Image → Options → Bool

@@ -3,5 +3,4 @@ pub mod Driving
 pub mod Machines
 pub mod Going
 pub mod Shorts
-pub mod Framed
 pub mod InterruptBits

@@ -10,7 +10,8 @@ use Rattle.xt_trace.specs.Traces.{Traced, stop_of}
 use Rattle.xt_exec.specs.Chips.{processor}
 use Rattle.xt_exec.specs.State.{State}
 use Rattle.xt_core.specs.Runs.{code_of, opening_of}
-pub use Rattle.xt_discipline.specs.Schedules.{HasSchedule, IsTraceIn, schedule_in}
+pub use Rattle.xt_trace.specs.Schedule.{schedule_in}
+pub use Rattle.xt_trace.specs.Scheduled.{HasSchedule, IsTraceIn}
 
 -- what is kept of a core's records and last state
 abbrev pub trace_for : ℕ → Traced State → Trace

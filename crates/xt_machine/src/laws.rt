@@ -4,9 +4,7 @@ ghost use Rattle.xt_trace.specs.declared.options.Options.{Options};
 ghost use Rattle.xt_trace.specs.declared.run.Run.{Run};
 ghost use Rattle.xt_trace.specs.Validity.{IsValid};
 ghost use Rattle.xt_image.specs.declared.image.Image.{Image};
-ghost use Rattle.xt_rows.specs.RowLaws.{IsWord};
 ghost use Rattle.xt_core.specs.Runs.{IsRunOf};
-ghost use Rattle.xt_machine.specs.Framed.{RunsAreFramed};
 ghost use Rattle.xt_machine.specs.InterruptBits.{BitsAgree};
 ghost use Rattle.xt_machine.specs.Lists.{HasSchedule, run_of_list, schedule_in};
 
@@ -26,20 +24,8 @@ pub fn run_has_schedule()
     ensures { (image : Image) (r : Run) → IsRunOf image r → HasSchedule r }
 {}
 
-/// Windows are frames, of every run of an image: where the six window handlers pass their check and
-/// the two stacks are apart, the judged records before the first breach are a run of the machine with
-/// unbounded call frames, and each whole stretch of handler steps has moved one frame.
-pub fn runs_are_framed()
-    ensures { RunsAreFramed }
-{}
-
 /// The five definitions of the bits of interrupts agree: each bit of a level is software's or a timer's,
 /// INTENABLE keeps these, and a timer sets the bit that a write of its CCOMPARE clears.
 pub fn interrupt_bits_agree()
     ensures { BitsAgree }
-{}
-
-/// A number of 32 bits is a word, by its type.
-pub fn is_word(number: u32)
-    ensures { IsWord number }
 {}

@@ -13,9 +13,7 @@ mod turns;
 pub use driving::drive;
 pub use laws::{
     interrupt_bits_agree, run_has_schedule, run_is_that_of_its_schedule, run_of_list_is_run,
-    runs_are_framed,
 };
 pub use machine::Machine;
 pub use scheduled::run_schedule;
 pub use threads::run;
-pub use xt_discipline::{Schedule, schedule_of};

@@ -7,12 +7,10 @@ ghost use Rattle.xt_trace.specs.Short.{short_advance, short_give};
 ghost use Rattle.xt_exec.specs.Chips.{processor};
 ghost use Rattle.xt_bus.specs.States.{opening_bus};
 ghost use Rattle.xt_core.specs.Runs.{IsRunOf, stack_words};
-ghost use Rattle.xt_machine.specs.Framed.{IsFramed};
 ghost use Rattle.xt_machine.specs.Lists.{run_of_list};
 ghost use Rattle.xt_machine.specs.Shorts.{opened_world, run_in, world_of};
 
 use crate::files::File;
-use crate::laws::is_word;
 use crate::pair::Pair;
 use crate::turns::make_turn;
 use std::alloc::{AllocError, Global};
@@ -122,8 +120,7 @@ impl Pair {
 
 /// The run of a list of cores, without threads: each number gives that core its next turn, or nothing
 /// where it has ended; then core 0's remaining turns follow, and then core 1's. The only error is
-/// running out of memory. Where the six window handlers pass their check and the stacks are apart,
-/// the run up to its first breach is one of the machine with unbounded call frames.
+/// running out of memory.
 ///
 /// Conditions: the image is well formed, the options are valid, and each number is 0 or 1.
 pub fn run_schedule(
@@ -137,11 +134,8 @@ pub fn run_schedule(
     requires cores { All (λ c. c < 2) schedule.now }
     ensures list { IfOk result (λ run. run ≡ run_of_list image.now options.now schedule.now) }
     ensures run { IfOk result (λ run. IsRunOf image.now run) }
-    ensures framed { IfOk result (λ run. IsFramed image.now run) }
 {
     well_formed_is_placed();
-    is_word(options.vecbase);
-    is_word(options.entry1);
     let code = Constants::make(alloc, image.segments.as_slice())?;
     let mut pair = Pair::open(alloc, image, options)?;
     pair.follow(&code, schedule);

@@ -4,16 +4,14 @@ ghost use Rattle.xt_map.specs.Index.{IsIndexed};
 ghost use Rattle.xt_map.specs.Memory.{constant_byte};
 ghost use Rattle.xt_trace.specs.Validity.{IsValid};
 ghost use Rattle.xt_image.specs.declared.image.Image.{Image};
-ghost use Rattle.xt_image.specs.ImageParts.{FitsImage, IsWellFormed};
+ghost use Rattle.xt_image.specs.ImageParts.{IsWellFormed};
 ghost use Rattle.xt_core.specs.Runs.{IsRunOf};
 ghost use Rattle.xt_machine.specs.Driving.{HasDriven, MayDrive};
-ghost use Rattle.xt_machine.specs.Framed.{IsFramed};
 ghost use Rattle.xt_machine.specs.Lists.{run_of_list, schedule_in};
 ghost use Rattle.xt_machine.specs.Machines.{IsOpened};
 
 use crate::driving::drive;
 use crate::files::ThreadFile;
-use crate::laws::is_word;
 use crate::machine::Machine;
 use crate::scheduled::opening_bus;
 use std::alloc::{AllocError, Global};
@@ -84,14 +82,11 @@ impl<'a> Machine<'a> {
         }
     }
 
-    /// Runs both cores, each on a thread of its own. It takes no memory, and may wait. Where the six
-    /// window handlers pass their check and the stacks are apart, the run up to its first breach is one
-    /// of the machine with unbounded call frames.
+    /// Runs both cores, each on a thread of its own. It takes no memory, and may wait.
     pub fn go<G: Gate, R: Threads + Wait + Sync>(self, rt: &R, gate: &G) -> Run
         ensures options { result.options ≡ self.entry.options }
         ensures run { (image : Image) → IsOpened image self.entry → IsRunOf image result }
         ensures own { (image : Image) → IsOpened image self.entry → run_of_list image self.entry.options (schedule_in result) ≡ result }
-        ensures framed { (image : Image) → FitsImage image → IsOpened image self.entry → IsFramed image result }
     {
         let Machine {
             options,
@@ -103,8 +98,6 @@ impl<'a> Machine<'a> {
             core0,
             core1,
         } = self;
-        is_word(options.vecbase);
-        is_word(options.entry1);
         let bus = &shared;
         // A closure that captures a struct with a lifetime loses its contract, so each has the parts.
         let (segments0, index0) = code0.into_parts();
@@ -132,9 +125,7 @@ impl<'a> Machine<'a> {
     }
 }
 
-/// The run of an image on two threads. The only error is running out of memory. It may wait. Where the six
-/// window handlers pass their check and the stacks are apart, the run up to its first breach is one of
-/// the machine with unbounded call frames.
+/// The run of an image on two threads. The only error is running out of memory. It may wait.
 ///
 /// Conditions: the image is well formed, and the options are valid.
 pub fn run<G: Gate, R: Threads + Wait + Sync>(
@@ -149,7 +140,6 @@ pub fn run<G: Gate, R: Threads + Wait + Sync>(
     ensures options { IfOk result (λ run. run.options ≡ options.now) }
     ensures run { IfOk result (λ run. IsRunOf image.now run) }
     ensures own { IfOk result (λ run. run_of_list image.now options.now (schedule_in run) ≡ run) }
-    ensures framed { IfOk result (λ run. IsFramed image.now run) }
 {
     let machine = Machine::make(rt, alloc, image, options)?;
     Ok(machine.go(rt, gate))

@@ -1,1 +1,3 @@
 mod Sending
+pub mod Framing
+pub mod Judging

@@ -3,3 +3,4 @@ pub mod Verdicts
 pub mod Reports
 pub mod Checks
 pub mod Summaries
+pub mod Framed

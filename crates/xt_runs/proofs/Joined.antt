@@ -9,8 +9,8 @@ use Rattle.xt_frames.specs.FirstBreach.{Course, IsFirstBreach, IsJudgement, Walk
 use Rattle.xt_frames.specs.Verdict.{Judgement, verdict, verdict_on}
 use Rattle.xt_discipline.specs.Schedules.{schedule_in}
 use Rattle.xt_discipline.specs.Verdicts.{are_yes, judgement_in, opened0, opened1}
-use Rattle.xt_machine.proofs.Judging.{judgement_is}
-use Rattle.xt_machine.specs.Framed.{IsFramed, judgement_of}
+use Rattle.xt_report.proofs.Judging.{judgement_is}
+use Rattle.xt_report.specs.Framed.{IsFramed, judgement_of}
 use Rattle.xt_trace.specs.declared.run.Run.{Run}
 use Rattle.xt_runs.specs.Verdicts.{IsFirstOf, IsJudged, course_of, whole_of}
 

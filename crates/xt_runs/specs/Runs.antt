@@ -16,7 +16,7 @@ use Rattle.xt_gen.specs.Generated.{generated_image}
 use Rattle.xt_gen.specs.Orders.{seeded_order}
 use Rattle.xt_core.specs.Runs.{IsRunOf, records_of}
 use Rattle.xt_machine.specs.Lists.{run_of_list, schedule_in}
-use Rattle.xt_machine.specs.Framed.{IsFramed}
+use Rattle.xt_report.specs.Framed.{IsFramed}
 use Rattle.xt_record.specs.Written.{recording_bytes}
 use Rattle.xt_command_line.specs.Options.{with_entry}
 use Rattle.xt_command_line.specs.TurnOrders.{cores_of}

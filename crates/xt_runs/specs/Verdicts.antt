@@ -11,7 +11,7 @@ use Rattle.xt_handlers.specs.declared.Handlers.{Handlers}
 use Rattle.xt_handlers.specs.CheckAnswers.{handlers_of}
 use Rattle.xt_discipline.specs.Schedules.{schedule_in}
 use Rattle.xt_discipline.specs.Verdicts.{are_yes, opened0, opened1}
-use Rattle.xt_machine.specs.Framed.{IsFrameRunOf, judgement_of}
+use Rattle.xt_report.specs.Framed.{IsFrameRunOf, judgement_of}
 use Rattle.xt_report.specs.declared.whole.Whole.{Whole}
 
 -- what is judged of a run of an image whose handlers have these answers: nothing where one of them

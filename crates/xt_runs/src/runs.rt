@@ -12,6 +12,7 @@ use xt_gen::seeded_order;
 use xt_image::{Image, well_formed_by_rules};
 use xt_io::Gate;
 use xt_machine::{run, run_is_that_of_its_schedule, run_schedule};
+use xt_report::run_is_framed;
 use xt_trace::Run;
 
 // The list of cores that an order stands for, with so many turns for both cores; none stands for two threads.
@@ -48,7 +49,9 @@ fn run_over(
     well_formed_by_rules();
     run_is_that_of_its_schedule();
     let at = options.with_entry(image.entry);
-    run_schedule(alloc, image, &at, cores)
+    let made = run_schedule(alloc, image, &at, cores)?;
+    run_is_framed(image, &made);
+    Ok(made)
 }
 
 // The run of an image with the options of the words, on two threads.
@@ -66,7 +69,9 @@ fn run_free<G: Gate, R: Threads + Wait + Sync>(
 {
     well_formed_by_rules();
     let options = options.with_entry(image.entry);
-    run(rt, alloc, image, &options, gate)
+    let made = run(rt, alloc, image, &options, gate)?;
+    run_is_framed(image, &made);
+    Ok(made)
 }
 
 /// The run of an image with the options of the words.

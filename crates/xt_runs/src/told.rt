@@ -2,7 +2,7 @@
 ghost use Rattle.std.specs.Prelude.{◌≡◌, IfOk};
 ghost use Rattle.xt_core.specs.Runs.{IsRunOf};
 ghost use Rattle.xt_image.specs.ImageParts.{IsWellFormed};
-ghost use Rattle.xt_machine.specs.Framed.{IsFramed};
+ghost use Rattle.xt_report.specs.Framed.{IsFramed};
 ghost use Rattle.xt_runs.specs.Told.{IsTold, run_in, verdict_in};
 
 use crate::analyses::analyses_text;

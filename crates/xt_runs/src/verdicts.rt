@@ -3,7 +3,7 @@ ghost use Rattle.std.specs.Prelude.{◌≡◌, IfOk, IfSome};
 ghost use Rattle.xt_runs.specs.Verdicts.{IsJudged, judged_of, whole_of};
 ghost use Rattle.xt_core.specs.Runs.{IsRunOf};
 ghost use Rattle.xt_image.specs.ImageParts.{IsWellFormed};
-ghost use Rattle.xt_machine.specs.Framed.{IsFramed};
+ghost use Rattle.xt_report.specs.Framed.{IsFramed};
 
 use std::alloc::{AllocError, Global};
 use xt_core::Cursor;

@@ -1,7 +1,7 @@
 use Rattle.std.proofs.Common.{ap, ap₂, ◌∙◌}
 use Rattle.xt_frames.specs.Verdict.{verdict}
 use Rattle.xt_discipline.specs.Verdicts.{are_yes, judgement_in}
-use Rattle.xt_machine.proofs.Judging.{judgement_is}
+use Rattle.xt_report.proofs.Judging.{judgement_is}
 use Rattle.xt_runs.proofs.verdicts.verdict.Goals as goal
 
 pub returns : goal.returns

@@ -1,8 +1,7 @@
-use Rattle.std.proofs.Common.{◌∙◌, List, ap, refl}
+use Rattle.std.proofs.Common.{◌∙◌, List, ap}
 use Rattle.xt_map.specs.declared.access.Entry.{Entry}
 use Rattle.xt_trace.specs.declared.run.Run.{Run}
 use Rattle.xt_sharedbus.specs.SeatState.{SeatState}
-use Rattle.xt_machine.proofs.Framing.{run_framed}
 use Rattle.xt_machine.proofs.Images.{own_list}
 use Rattle.xt_machine.proofs.Opened.{both_made}
 use Rattle.xt_machine.proofs.machine.Machine.go.Goals as goal
@@ -23,8 +22,3 @@ returns-clause-run g c image h =
 pub returns-clause-own : goal.returns-clause-own
 returns-clause-own g c image h =
     own_list image (record { options = c.args.self.options; history = c.into_history.result; trace0 = c.into_trace.result; trace1 = c.into_trace-2.result }) (returns-clause-run g c image h)
-
-pub returns-clause-framed : goal.returns-clause-framed
-returns-clause-framed g c image fits h =
-    run_framed image c.args.self.options (record { options = c.args.self.options; history = c.into_history.result; trace0 = c.into_trace.result; trace1 = c.into_trace-2.result })
-    fits c.is_word.ensures c.is_word-2.ensures refl (returns-clause-run g c image h)

@@ -8,7 +8,7 @@ use Rattle.xt_core.specs.Runs.{code_of, records_of, IsRunOf}
 use Rattle.xt_frames.specs.Verdict.{Judgement, judgement, opening_known}
 use Rattle.xt_discipline.specs.Schedules.{schedule_in}
 use Rattle.xt_discipline.specs.Verdicts.{judgement_in, opened0, opened1}
-use Rattle.xt_machine.specs.Framed.{judgement_of, short_of}
+use Rattle.xt_report.specs.Framed.{judgement_of, short_of}
 
 -- the schedule that is kept is that of the records
 schedule_is : (image : Image) (r : Run) → IsRunOf image r → schedule_in r ≡ short_schedule (short_of image r)

@@ -1,15 +1,13 @@
 -- A run of an image is framed.
-use Rattle.std.proofs.Common.{◌≡◌, ◌<◌, ℕ, true, zero, suc, List, [], ◌∷◌, arith, refl, sym, subst}
+use Rattle.std.proofs.Common.{◌≡◌, ◌<◌, ℕ, true, zero, suc, List, [], ◌∷◌, arith, refl}
 use Rattle.std.specs.Prelude.{slice_index}
 use Rattle.std.specs.List.{AllByRecursion}
 use Rattle.std.proofs.lemmas.List.Elements.{recursion_from_All}
 use Rattle.std.proofs.lemmas.Bool.{and_parts}
 use Rattle.xt_map.specs.declared.segment.Segment.{Segment}
-use Rattle.xt_trace.specs.declared.options.Options.{Options}
 use Rattle.xt_trace.specs.declared.run.Run.{Run}
 use Rattle.xt_image.specs.declared.image.Image.{Image}
-use Rattle.xt_image.specs.ImageParts.{FitsImage, FitsSegment}
-use Rattle.xt_rows.specs.RowLaws.{IsWord}
+use Rattle.xt_image.specs.ImageParts.{FitsSegment}
 use Rattle.xt_core.specs.Runs.{IsRunOf, code_of}
 use Rattle.xt_handlers.specs.declared.stretch.HandlerVerdict.{HandlerVerdict}
 use Rattle.xt_handlers.specs.declared.stretch.HandlerVerdict.TheVariants.{Yes, No}
@@ -20,7 +18,7 @@ use Rattle.xt_discipline.specs.Verdicts.{is_yes, are_yes}
 use Rattle.xt_simulation.specs.Opening.{AreSmall, IsRunnable}
 use Rattle.xt_simulation.specs.Headline.{IsRunOfImage}
 use Rattle.xt_simulation.proofs.Images.{six_suffice, windows_are_frames, stretches_of_images, images_are_all_judged}
-use Rattle.xt_machine.specs.Framed.{short_of, AreTyped, IsFramed, RunsAreFramed}
+use Rattle.xt_report.specs.Framed.{short_of, AreTyped, RunsAreFramed}
 
 bytes_small : (bytes : List ℕ) → AllByRecursion (λ b. b < 256) bytes → (k : ℕ) → slice_index bytes k < 256
 bytes_small [] all k = omega arith
@@ -71,10 +69,3 @@ runs_are_framed image r t h six apart =
       },
       stretches_of_images image.segments image.entry r.options (short_of image r) given handlers apart run,
     )
-
--- a run with given options, whose addresses are words by their types
-pub run_framed : (image : Image) (o : Options) (r : Run) → FitsImage image → IsWord o.vecbase → IsWord o.entry1 → r.options ≡ o → IsRunOf image r → IsFramed image r
-run_framed image o r fits vecbase entry1 is h =
-    let V : Options → Type 0 = λ x. IsWord x.vecbase in
-    let E : Options → Type 0 = λ x. IsWord x.entry1 in
-    runs_are_framed image r (record { image_fits = fits; vecbase = subst V (sym is) vecbase; entry1 = subst E (sym is) entry1 }) h

@@ -1,5 +1,0 @@
-use Rattle.xt_machine.proofs.Framing.{runs_are_framed}
-use Rattle.xt_machine.proofs.laws.runs_are_framed.Goals as goal
-
-pub returns : goal.returns
-returns c = runs_are_framed
