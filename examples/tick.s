@@ -1,4 +1,4 @@
-# The program adds 1 to the word `count` twenty times, and a timer interrupt that comes every 50 turns adds 1 as well. An
+# The program adds 1 to the word `count` twenty times, and a timer interrupt that comes again and again adds 1 as well. An
 # interrupt between the load and the store of the program is lost: docs/WORKSHEET.md.
 
 .seg 0x3FFB0000
@@ -11,7 +11,7 @@ ticks:  .word 0                 # how often the handler ran
 tick:   wsr a2, misc0           # keeps a2 and a3
         wsr a3, misc1
         rsr a3, ccount
-        addi a3, a3, 50
+        addi a3, a3, 31
         wsr a3, ccompare0       # the next interrupt; this clears the present one
         l32r a2, =count
         l32i a3, a2, 0
@@ -29,7 +29,7 @@ tick:   wsr a2, misc0           # keeps a2 and a3
 .literal_position
 main:   entry a1, 32
         l32r a4, =count
-        movi a2, 50
+        movi a2, 31
         wsr a2, ccompare0
         movi a2, 64             # timer 0
         wsr a2, intenable
