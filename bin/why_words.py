@@ -123,6 +123,9 @@ def exception_parts(it: Object) -> Parts:
     if cause == 3:
         side = "store to" if re.match("s(8|16|32)", text) else "load from"
         what = "%s %08X, no memory there" % (side, address)
+        if it["into_code"]:
+            what = "store to %08X, where code lies, which no store changes" % address
+            what += "" if it["runtime"] else "; put data into `.seg 0x3FFB0000`"
     elif cause == 9:
         what = "%08X is no multiple of the access's size" % address
     elif cause == 2:
@@ -171,7 +174,7 @@ def ends(found: Sequence[Object]) -> list[str]:
 
 
 ANSWERS = {
-    "none": "nothing is said: a window handler does not do its work (the report's line `handlers`)",
+    "none": "not judged: a window handler does not pass its check (the report's line `handlers`)",
     "whole": "whole",
     "same": "the same",
 }
@@ -184,11 +187,15 @@ def verdict(it: Object) -> list[str]:
     head = "step %d of core %d " % (it["step"], it["core"])
     if not it["finding"]:
         words = MOVES.get(name, BREACHES[name])
-        more = " (%s), as compiled code may; `uses` says whether it matters" % name
+        more = " (%s). Correct compiled code may do that" % name
+        more += "; the line `uses` says whether it matters"
         return finding(it["kind"], head + words + more)
     words = BREACHES["StackRange"] if it["leaves_stack"] else BREACHES.get(name, "breaks a rule")
     text = "%s%s (%s%s)" % (head, words, name, ", longjmp" if it["longjmp"] else "")
-    return finding(it["kind"], text, it["calls"], effect_of(it), breach_notes(it))
+    effect = effect_of(it)
+    if it["calls"] and not it["calls"][0].text and effect != it["instruction"]:
+        effect = "%s  %s" % (it["instruction"], effect)  # there is no line of C that shows it
+    return finding(it["kind"], text, it["calls"], effect, breach_notes(it))
 
 
 def breach_notes(it: Object) -> list[str]:
@@ -280,7 +287,7 @@ def interrupts(it: Object) -> list[str]:
     head = " %d of core %d; " % (it["times"], it["core"])
     if not it["lost"]:
         return finding(
-            "interrupts", head + "none between a load and a store of bytes that it changes")
+            "interrupts", head + "none came between a load and a store of bytes that it changes")
     lines = []
     for found in it["lost"]:
         calls = [found["load"], found["store"]]
@@ -288,8 +295,8 @@ def interrupts(it: Object) -> list[str]:
             calls.pop()
         lines += finding(
             "interrupts",
-            " %d of %d of core %d came between a load and a store of %s, and what they stored there"
-            " is lost" % (found["times"], it["times"], it["core"], named(found)), calls)
+            " %d of the %d of core %d came between a load and a store of %s; what they stored there is"
+            " lost" % (found["times"], it["times"], it["core"], named(found)), calls)
     return lines
 
 
