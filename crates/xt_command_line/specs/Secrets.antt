@@ -3,12 +3,13 @@
 --
 -- Profile: a range lies whole in one region of memory. Constant memory is none: each image has its own,
 -- so that another secret there would be another program.
-use Rattle.std.specs.Prelude.{ℕ, ◌+◌, Bool, ◌&&◌, nat_le, List, [], ◌∷◌, map, Option, Some, None}
+use Rattle.std.specs.Prelude.{ℕ, ◌+◌, Bool, ◌&&◌, nat_le, List, [], ◌∷◌, Option, Some, None}
 use Rattle.std.specs.Prelude.{option_and_then, Result, Ok, Err, if◌then◌else◌}
-use Rattle.std.specs.List.{list_all, list_any}
+use Rattle.std.specs.List.{list_any}
 use Rattle.clap.specs.Words.{Text}
 use Rattle.xt_map.specs.Regions.{Range, is_memory, ranges}
 use Rattle.xt_command_line.specs.Spans.{spans_in}
+use Rattle.xt_command_line.specs.TurnOrders.{and_all}
 use Rattle.xt_command_line.specs.declared.command.Refusal.{Refusal}
 use Rattle.xt_command_line.specs.declared.command.Refusal.TheVariants as refusal
 use Rattle.xt_command_line.specs.declared.secrets.SecretOptions.{SecretOptions}
@@ -24,11 +25,13 @@ unfoldable pub is_range : Span → Bool
 is_range s = nat_le 1 s.count && list_any (holds_bytes s) ranges
 
 -- an address, and how many bytes from it on
-abbrev pub range_of : Span → ℕ × ℕ
-range_of s = (s.addr, s.count)
+unfoldable pub range_of : Span → Option (ℕ × ℕ)
+range_of s = if is_range s then Some (s.addr, s.count) else None
 
+-- the bytes in these places, if each is a range
 abbrev pub ranges_from : List Span → Option (List (ℕ × ℕ))
-ranges_from spans = if list_all is_range spans then Some (map range_of spans) else None
+ranges_from [] = Some []
+ranges_from (s ∷ rest) = and_all (range_of s) (ranges_from rest)
 
 -- the bytes that a text lists
 abbrev pub ranges_in : Text → Option (List (ℕ × ℕ))

@@ -2,7 +2,7 @@
 ghost use Rattle.std.specs.Prelude.{◌≡◌, ◌&&◌, IfOk, nat_le, option_map};
 ghost use Rattle.std.specs.List.{list_any};
 ghost use Rattle.xt_command_line.specs.MeaningAnswers.{Means};
-ghost use Rattle.xt_command_line.specs.Secrets.{is_range, public_in, ranges_from, ranges_in, secrets_by, secrets_in};
+ghost use Rattle.xt_command_line.specs.Secrets.{is_range, public_in, range_of, ranges_from, ranges_in, secrets_by, secrets_in};
 
 use crate::command::Refusal;
 use crate::spans::{Span, spans_in};
@@ -73,17 +73,25 @@ fn is_range(span: Span) -> bool
     span.count > 0 && lies_in(&MEMORIES, first, first + span.count as u64)
 }
 
-// The bytes in these places, or none if one of them is no range of memory.
+// An address and how many bytes from it on, if they are a range of memory.
+#[tactic(auto, unfolding(crate::specs::Secrets::range_of))]
+fn range_of(span: Span) -> Option<(u32, u32)>
+    ensures { result ≡ range_of span }
+{
+    is_range(span).then_some((span.addr, span.count))
+}
+
+// The bytes in these places, each of which has to be a range of memory.
 fn ranges_from(alloc: Global, spans: &[Span]) -> Result<Option<ByteRanges>, AllocError>
     ensures { IfOk result (λ list. list ≡ ranges_from spans.now) }
 {
-    if !spans.iter().all(|span| is_range(*span)) {
-        return Ok(None);
+    let mut ranges = Vec::new(alloc);
+    for span in spans {
+        match range_of(*span) {
+            Some(range) => ranges.push(range)?,
+            None => return Ok(None),
+        }
     }
-    let ranges = spans
-        .iter()
-        .map(|span| (span.addr, span.count))
-        .collect(alloc)?;
     Ok(Some(ByteRanges::new(ranges)))
 }
 
