@@ -1,5 +1,5 @@
 /* Takes one of two words by a bit, without a choice: a mask keeps one of them. */
-static volatile unsigned secret = 0x2B7E1516, left = 3, right = 4, out;
+volatile unsigned secret = 0x2B7E1516, left = 3, right = 4, out;
 
 int main(void)
 {

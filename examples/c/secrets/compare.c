@@ -1,6 +1,6 @@
 /* Checks a PIN and stops at the first digit that is wrong: the time tells how many are right. */
-static unsigned char secret[6] = "25081", tried[6] = "25977";
-static volatile int opened;
+unsigned char secret[6] = "25081", tried[6] = "25977";
+volatile int opened;
 
 static int same(const unsigned char *a, const unsigned char *b, int count)
 {

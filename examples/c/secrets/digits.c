@@ -1,6 +1,6 @@
 /* Writes a number as digits: a chip divides in a time that depends on the number. */
-static volatile unsigned secret = 25081;
-static volatile char out[6];
+volatile unsigned secret = 25081;
+volatile char out[6];
 
 int main(void)
 {

@@ -2,8 +2,8 @@
    variable has it, which --public names. */
 #include <stdio.h>
 
-static unsigned char secret[6] = "25081", tried[6] = "25977";
-static volatile int opened;
+unsigned char secret[6] = "25081", tried[6] = "25977";
+volatile int opened;
 
 static int same(const unsigned char *a, const unsigned char *b, int count)
 {
