@@ -1,11 +1,8 @@
-/* A cipher of BearSSL over 64 bytes, with its key in `key`: AES by tables (-DTABLES) or by bits (-DBITS), ChaCha20
-   (-DCHACHA20), or else HMAC with SHA-256. examples/c/ported.sh builds each. */
+/* A cipher of BearSSL over 64 bytes, whose key is in `key`: AES by tables (-DTABLES) or by bits (-DBITS), ChaCha20
+   (-DCHACHA20), or HMAC with SHA-256 (-DHMAC). examples/c/ported.sh builds each. */
 #include <bearssl.h>
 
-static unsigned char key[32] = "the key of a cipher, 32 bytes..", text[64] = "the text";
-#ifndef HMAC
-static const unsigned char nonce[12] = "a nonce";
-#endif
+unsigned char key[32] = "the key of a cipher, 32 bytes..", nonce[12] = "a nonce", text[64] = "the text";
 
 int main(void)
 {
