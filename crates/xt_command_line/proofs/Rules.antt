@@ -1,12 +1,12 @@
 -- The rules of usage that options keep.
 use Rattle.std.proofs.Common.{◌≡◌, ◌≢◌, ℕ, ◌≤◌, ◌%◌, ◌&&◌, Bool, true, false, List, [], ◌∷◌, Option, Some, None, Result, Ok, Err, arith, codes, refl, rules}
-use Rattle.std.specs.Prelude.{◌==◌, nat_le, unwrap_or, if◌then◌else◌}
+use Rattle.std.specs.Prelude.{◌==◌, is_none, nat_le, unwrap_or, if◌then◌else◌}
 use Rattle.std.proofs.lemmas.Bool.Decides.{nat_tests}
 use Rattle.clap.specs.Words.{Row, Text, first_of}
 use Rattle.xt_map.specs.Regions.{region_of, is_executable}
 use Rattle.xt_trace.specs.Validity.{IsValid, IsValidStack, most_turns}
 use Rattle.xt_trace.specs.declared.options.Stack.{Stack}
-use Rattle.xt_command_line.specs.Options.{AcceptsValid, OptionsNeedNoMemory, Texts, are_secrets_required, by_rows, first_broken, is_entry, is_set, is_stack, options_or_refusal, options_with, judged_texts, judged_with, options_in, record_app, record_options_of, run_app, run_options_of, said_or, texts_of, unless_broken, with_secrets}
+use Rattle.xt_command_line.specs.Options.{AcceptsValid, OptionsNeedNoMemory, Texts, are_secrets_required, by_rows, first_broken, is_entry, is_set, is_stack, keeping, options_or_refusal, options_with, judged_texts, judged_with, options_in, record_app, record_options_of, run_app, run_options_of, said_or, texts_of, unless_broken, with_secrets}
 use Rattle.xt_command_line.specs.Arguments.{check_app, gen_app, generator_number_of, judged_number, judged_vecbase, needed_secrets, number_by, number_in, rigor_by, rigor_of, secret_options_by, secret_options_of, secrets_app, secrets_needed, uses_app, vecbase_by, vecbase_of}
 use Rattle.xt_command_line.specs.Turns.{chosen_turns, core_of, trace_app, turns_by, turns_of}
 use Rattle.xt_command_line.specs.MeaningAnswers.{answer_with}
@@ -101,11 +101,10 @@ secrets-answers None (Some public) = λ e. search (rules, e)
 secrets-answers (Some secret) public = secrets_by-answers (ranges_in secret) (public_in public)
 
 options_with-answers : (o : RunOptions) (secrets : Option SecretOptions) → options_with o secrets ≢ Err refusal.Memory
-options_with-answers o None = elim (are_secrets_required o.required) as (λ b. (if b then Err (refusal.Usage 10) else Ok o) ≢ Err refusal.Memory) [
+options_with-answers o secrets = elim (is_none secrets && are_secrets_required o.required) as (λ b. (if b then Err (refusal.Usage 10) else Ok (keeping o secrets)) ≢ Err refusal.Memory) [
   | true ↦ λ e. search (rules, e)
   | false ↦ λ e. search (rules, e)
 ]
-options_with-answers o (Some secrets) = λ e. search (rules, e)
 
 with_secrets-answers : (options : Result RunOptions Refusal) (secrets : Result (Option SecretOptions) Refusal)
     → options ≢ Err refusal.Memory → secrets ≢ Err refusal.Memory → with_secrets options secrets ≢ Err refusal.Memory

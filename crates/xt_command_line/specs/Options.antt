@@ -6,9 +6,9 @@
 -- Profile: nobody can require of a run that it keeps its secrets and say of none what they are.
 -- Note: `entry1` is judged only where it is given; otherwise it is the image's entry, which the
 -- image's rules judge.
-use Rattle.std.specs.Prelude.{◌≡◌, ◌≢◌, ℕ, ◌+◌, ◌%◌, Bool, true, false, ◌==◌, ◌&&◌, nat_le, List}
-use Rattle.std.specs.Prelude.{[], ◌∷◌, ◌++◌, fold, Option, Some, None, unwrap_or, option_map, Result, Ok}
-use Rattle.std.specs.Prelude.{Err, if◌then◌else◌, codes}
+use Rattle.std.specs.Prelude.{◌≡◌, ◌≢◌, ℕ, ◌+◌, ◌%◌, Bool, true, false, ◌==◌, ◌&&◌, is_none, nat_le}
+use Rattle.std.specs.Prelude.{List, [], ◌∷◌, ◌++◌, fold, Option, Some, None, unwrap_or, option_map}
+use Rattle.std.specs.Prelude.{Result, Ok, Err, if◌then◌else◌, codes}
 use Rattle.std.specs.Option.{option_map_or}
 use Rattle.std.specs.List.{before_first, after_first}
 use Rattle.std.specs.Str.{bytes_eq}
@@ -250,10 +250,13 @@ are_secrets_required None = false
 are_secrets_required (Some list) = is_among requirement.Secret list
 
 -- the options with what is secret
+abbrev pub keeping : RunOptions → Option SecretOptions → RunOptions
+keeping o secrets = record o { secrets = secrets }
+
 abbrev pub options_with : RunOptions → Option SecretOptions → Result RunOptions Refusal
-options_with o None =
-    if are_secrets_required o.required then Err (refusal.Usage 10) else Ok o
-options_with o (Some secrets) = Ok (record o { secrets = Some secrets })
+options_with o secrets =
+    if is_none secrets && are_secrets_required o.required then Err (refusal.Usage 10)
+    else Ok (keeping o secrets)
 
 abbrev pub with_secrets :
     Result RunOptions Refusal → Result (Option SecretOptions) Refusal → Result RunOptions Refusal
