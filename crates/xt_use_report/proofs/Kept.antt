@@ -1,11 +1,11 @@
 -- What is so of the secrets of a run of an image, by its answer.
-use Rattle.std.proofs.Common.{ℕ, Option, Some, None, List}
+use Rattle.std.proofs.Common.{ℕ, List}
 use Rattle.xt_trace.specs.declared.run.Run.{Run}
 use Rattle.xt_image.specs.declared.image.Image.{Image}
 use Rattle.xt_image.specs.ImageParts.{FitsImage}
 use Rattle.xt_rows.specs.RowLaws.{IsWord}
 use Rattle.xt_core.specs.Runs.{IsRunOf}
-use Rattle.xt_secrets.specs.FirstLeak.{IsFirstLeak, Leak}
+use Rattle.xt_secrets.specs.FirstLeak.{IsFirstLeak}
 use Rattle.xt_secrets.specs.SecretRunLaws.{ImageRunsAreSameUpToTheLeak}
 use Rattle.xt_secrets.specs.WatchedRuns.{has_byte_at}
 use Rattle.xt_secret_walk.specs.Answers.{IsSecretsOf, SecretsAreOne}

@@ -11,8 +11,8 @@ use Rattle.xt_use_report.specs.UsesText.{both_text, insn_text}
 -- `secrets leak core C step N`
 abbrev pub leak_line : FirstLeak → List ℕ
 leak_line first =
-    codes "secrets leak core " ++ decimal first.core ++ codes " step " ++ decimal first.step
-    ++ codes "\n"
+    codes "secrets leak core "
+    ++ (decimal first.core ++ (codes " step " ++ (decimal first.step ++ codes "\n")))
 
 -- that, the trace line of the record, the line of the instruction at its program counter, and a line
 -- for each register that it reads and of which not every bit is known
@@ -27,7 +27,7 @@ leak_text code first =
 -- `secrets whole carried N M`
 unfoldable pub kept_text : ℕ → ℕ → List ℕ
 kept_text n m =
-    codes "secrets whole carried " ++ decimal n ++ codes " " ++ decimal m ++ codes "\n"
+    codes "secrets whole carried " ++ (decimal n ++ (codes " " ++ (decimal m ++ codes "\n")))
 
 abbrev pub secrets_text : (ℕ → ℕ) → Secrets → List ℕ
 secrets_text code (Whole n m) = kept_text n m

@@ -72,10 +72,7 @@ fn push_lack(out: &mut String, lack: Option<Lack>) -> Result<(), AllocError>
 }
 
 /// A line `aK VALUE known MASK` or `aK mark J` for each register. The only error is running out of memory.
-pub fn both_text(
-    alloc: Global,
-    lacks: (Option<Lack>, Option<Lack>),
-) -> Result<String, AllocError>
+pub fn both_text(alloc: Global, lacks: (Option<Lack>, Option<Lack>)) -> Result<String, AllocError>
     ensures { IfOk result (λ text. string_bytes text ≡ both_text lacks) }
 {
     let mut out = String::new(alloc);
