@@ -9,7 +9,9 @@ ghost use Rattle.xt_cli.specs.Tools.{Answers, Finishes, IsComplete, IsMade, Make
 use crate::orders::{Order, order_in};
 use crate::outcomes::outcomes;
 use std::alloc::Global;
-use xt_command_line::{Beyond, Listing, OutcomeOptions, ProfileOptions, Refusal, SecretOptions, Turns};
+use xt_command_line::{
+    Beyond, Listing, OutcomeOptions, ProfileOptions, Refusal, SecretOptions, Turns,
+};
 use xt_debug::{Printed, Script, run_script};
 use xt_image::well_formed_is_placed;
 use xt_io::{ReadError, Sink, Source, read_to_limit};

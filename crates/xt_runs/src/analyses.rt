@@ -82,7 +82,13 @@ fn kept(
     ensures { IfOk result (IsSecretsText secrets.now image.now run.now) }
 {
     match secrets {
-        Some(it) => secrets_text(alloc, image, run, it.secret.as_slice(), it.public.as_slice()),
+        Some(it) => secrets_text(
+            alloc,
+            image,
+            run,
+            it.secret.as_slice(),
+            it.public.as_slice(),
+        ),
         None => Ok(Text::new(Vec::new(alloc))),
     }
 }

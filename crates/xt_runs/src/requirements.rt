@@ -81,7 +81,13 @@ fn secrets_by(
     ensures { IfOk result (IsSecretsOf image.now run.now (secret_of secrets.now) (public_of secrets.now)) }
 {
     match secrets {
-        Some(it) => secrets_of(alloc, image, run, it.secret.as_slice(), it.public.as_slice()),
+        Some(it) => secrets_of(
+            alloc,
+            image,
+            run,
+            it.secret.as_slice(),
+            it.public.as_slice(),
+        ),
         None => secrets_of(alloc, image, run, &[], &[]),
     }
 }
