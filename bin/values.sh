@@ -59,7 +59,7 @@ show_value() {
         --require)
             case $command in
             outcomes) show_others "$before" "$word" one not-stuck race-free whole ;;
-            *) show_others "$before" "$word" break whole used race-free exit0 ;;
+            *) show_others "$before" "$word" break whole used race-free exit0 secret ;;
             esac
             ;;
         esac

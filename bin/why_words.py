@@ -41,6 +41,17 @@ BREACHES = {
 }
 # What they do if nothing has to come of it.
 MOVES = {"Unset": "moves a value that its function never set", "Movsp": "moves the stack pointer"}
+# What a secret does at an instruction, by the beginning of its name; the first that fits counts.
+DECIDES = (
+    ("b", "decided a branch"), ("s32c1i", "decided an exchange"),
+    ("quo", "decided how long a division takes"), ("rem", "decided how long a division takes"),
+    ("ss", "chose how far to shift"), ("loop", "chose how often a loop runs"),
+    ("jx", "chose where to go on"), ("callx", "chose what is called"),
+    ("ret", "chose where to return"), ("wsr", "was written to a special register"),
+    ("xsr", "was written to a special register"), ("movsp", "chose a stack pointer"),
+    ("entry", "chose a stack pointer"), ("l", "chose an address"), ("s", "chose an address"),
+)
+SENDER = 0x3FF40000  # the address that sends a byte
 SIDES = {"load": "load", "store": "store", "compare_and_swap": "exchange"}
 CAUSES = {
     0: "no instruction of this machine",
@@ -254,6 +265,40 @@ def origin(it: Object) -> list[str]:
     return [head, *map(part, it["bytes"])]
 
 
+# ---- Secrets.
+
+
+def secret(it: Object) -> list[str]:
+    if it["answer"] == "whole":
+        return finding("secret", "whole: the run is the same with any other content of %s" % it["secret"])
+    does = next((does for name, does in DECIDES if it["instruction"].startswith(name)), "decided something")
+    if it["access"] and it["access"].address == SENDER:
+        does = "was sent"
+    found = dict.fromkeys(secret_origin(register) for register in it["registers"])
+    notes = ["%s, and %s at %s" % (came, does, line_of(it["place"])) for came in found if came]
+    text = "step %d of core %d uses a bit that depends on %s" % (it["step"], it["core"], it["secret"])
+    return finding("secret", text, it["calls"], effect_of(it), notes)
+
+
+def secret_origin(it: Object) -> str:
+    """Where a register that depends on a secret came from; nothing if that is not known."""
+    if it["from"] is None:
+        return ""
+    if it["from"] == "made":
+        return "a%d was computed at %s" % (it["register"], line_of(it["place"]))
+    name = it["name"] or "%08X" % it["address"]
+    if it["name"] and it["size"] == 1:
+        name += "[%d]" % it["offset"]
+    elif it["offset"]:
+        name += "+%d" % it["offset"]
+    return "%s was loaded at %s" % (name, line_of(it["place"]))
+
+
+def line_of(place: Place) -> str:
+    """A line, or if none is known the function."""
+    return place.short or place.function
+
+
 # ---- Both cores, and interrupts.
 
 
@@ -300,7 +345,9 @@ def interrupts(it: Object) -> list[str]:
     return lines
 
 
-BY_KIND = {"stack": verdict, "uses": verdict, "race": race, "interrupts": interrupts}
+BY_KIND = {
+    "stack": verdict, "uses": verdict, "secret": secret, "race": race, "interrupts": interrupts,
+}
 
 
 def lines_of(it: Object) -> list[str]:

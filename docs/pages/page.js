@@ -31,6 +31,7 @@ const SETTERS = {
     handlers: (run, words) => { run.handlers = words.join(' '); },
     breach: (run, words) => { [run.breach, run.kind] = [+words[0], words[1]]; },
     uses: (run, words) => { run.uses = words.join(' '); },
+    secrets: (run, words) => { run.secrets = words.join(' '); },
     code: (run, words) => { run.code.set(parseInt(words[0], 16), words.slice(1).join(' ')); },
     source: (run, words) => { const [n, name, place, text] = words.join(' ').split('\t'); run.sources[n] = { name, text: `${place.replace(/.*\//, '')} ${text}` }; },
     line: (run, words) => { run.lines.set(parseInt(words[0], 16), run.sources[words[1]]); },
@@ -308,13 +309,14 @@ function follow(run, core) {
 }
 
 const SIGNS = {
-    breach: ['\u2716', 'the breach'], uses: ['\u2717', 'what `uses` names'], over: ['\u25BC', 'window overflow'], under: ['\u25B2', 'window underflow'],
+    breach: ['\u2716', 'the breach'], uses: ['\u2717', 'what `uses` names'], secret: ['\u2691', 'the first step that uses a secret'], over: ['\u25BC', 'window overflow'], under: ['\u25B2', 'window underflow'],
     exc: ['\u25C6', 'exception'], int: ['\u26A1\uFE0E', 'interrupt'], shared: ['\u25CF', 'access to a word that the other core came to last'],
 };
 
 function signOf(run, moment) {
     if (run.breach === run.first + moment.k) return 'breach';
     if (run.uses && run.uses.endsWith(` core ${moment.core} step ${moment.step}`)) return 'uses';
+    if (run.secrets === `leak core ${moment.core} step ${moment.step}`) return 'secret';
     const { kind, n } = moment.event;
     if (kind === 'window') return n % 2 ? 'under' : 'over';
     if (kind in SIGNS) return kind;
@@ -544,7 +546,7 @@ function sentence(moment) {
     if (moment.core === null) return run.end === 0 ? 'This run is empty: no core made a step.' : `Position ${run.first}: before the first step of this page.`;
     const head = `Position ${run.first + moment.k}, after step ${moment.step} of core ${moment.core}: <b class="mono">${hex8(moment.pc)} ${escape(moment.text || '?')}</b>`;
     const from = run.lines.get(moment.pc);
-    return `${head} \u2014 ${escape(effect(moment))}${moment.sign === 'breach' ? `. <b>S${escape(breachText()).slice(1)}</b>` : moment.sign === 'uses' ? `. <b>\u2018uses\u2019 names this step: ${escape(run.uses)}</b>` : ''}`
+    return `${head} \u2014 ${escape(effect(moment))}${moment.sign === 'breach' ? `. <b>S${escape(breachText()).slice(1)}</b>` : moment.sign === 'uses' ? `. <b>\u2018uses\u2019 names this step: ${escape(run.uses)}</b>` : moment.sign === 'secret' ? '. <b>It uses a bit that depends on a secret</b>' : ''}`
         + (from ? ` <span class="c">${escape(from.name)} ${escape(from.text)}</span>` : '');
 }
 
