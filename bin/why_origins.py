@@ -1,5 +1,5 @@
 """Where a value came from: a walk back over the turns of one core, from a step that reads a register to the one that
-made it. bin/why says with it where an unknown value, or the pointer of a store, came from.
+made it. bin/why says with it where an unknown value, a secret, or the pointer of a store came from.
 
 The walk follows moves, loads of what the core itself stored, arguments over ENTRY and results over RETW. It knows no
 more than the lines of `trace` say, and passes over window handlers and interrupts, so it is no part of any proof.
@@ -142,6 +142,29 @@ class Walk:
                 return self.of_several(at, sources) or end
             register = sources[0]
         return end
+
+    def secret(self, at, register, is_secret):
+        """The load of a secret byte that a register which the turn `at` reads comes from: an End `loaded`. If none is found,
+        the End `made` with the last turn that made the register of several, or `unknown`."""
+        while self.left > 0:
+            self.left -= 1
+            found = self.definition(at, register)
+            if isinstance(found, End):
+                break
+            at, register = found
+            turn = self.turns[at]
+            if turn.access == "ld":
+                stored = self.store(at)
+                if isinstance(stored, End):
+                    return End("loaded" if is_secret(turn.address, turn.size) else "unknown", turn, load=turn)
+                at, register = stored, int(self.turns[stored].operands()[0][1:])
+                continue
+            sources = turn.sources() + [register] * turn.runs("moveqz", "movnez", "movltz", "movgez")
+            if len(sources) != 1:
+                ends = (self.secret(at, it, is_secret) for it in sources if it != 1)
+                return next((end for end in ends if end.kind == "loaded"), End("made" if sources else "unknown", turn, register))
+            register = sources[0]
+        return End("unknown")
 
     def of_several(self, at, sources):
         """The first End of several registers that names where nothing was set."""

@@ -41,6 +41,17 @@ BREACHES = {
 }
 # What they do if nothing has to come of it.
 MOVES = {"Unset": "moves a value that its function never set", "Movsp": "moves the stack pointer"}
+# What a secret does at an instruction, by the beginning of its name; the first that fits counts.
+DECIDES = (
+    ("b", "decided a branch"), ("s32c1i", "decided an exchange"),
+    ("quo", "decided how long a division takes"), ("rem", "decided how long a division takes"),
+    ("ss", "chose how far to shift"), ("loop", "chose how often a loop runs"),
+    ("jx", "chose where to go on"), ("callx", "chose what is called"),
+    ("ret", "chose where to return"), ("wsr", "was written to a special register"),
+    ("xsr", "was written to a special register"), ("movsp", "chose a stack pointer"),
+    ("entry", "chose a stack pointer"), ("l", "chose an address"), ("s", "chose an address"),
+)
+SENDER = 0x3FF40000  # the address that sends a byte
 SIDES = {"load": "load", "store": "store", "compare_and_swap": "exchange"}
 CAUSES = {
     0: "no instruction of this machine",
@@ -123,6 +134,9 @@ def exception_parts(it: Object) -> Parts:
     if cause == 3:
         side = "store to" if re.match("s(8|16|32)", text) else "load from"
         what = "%s %08X, no memory there" % (side, address)
+        if it["into_code"]:
+            what = "store to %08X, where code lies, which no store changes" % address
+            what += "" if it["runtime"] else "; put data into `.seg 0x3FFB0000`"
     elif cause == 9:
         what = "%08X is no multiple of the access's size" % address
     elif cause == 2:
@@ -171,7 +185,7 @@ def ends(found: Sequence[Object]) -> list[str]:
 
 
 ANSWERS = {
-    "none": "nothing is said: a window handler does not do its work (the report's line `handlers`)",
+    "none": "not judged: a window handler does not pass its check (the report's line `handlers`)",
     "whole": "whole",
     "same": "the same",
 }
@@ -184,11 +198,15 @@ def verdict(it: Object) -> list[str]:
     head = "step %d of core %d " % (it["step"], it["core"])
     if not it["finding"]:
         words = MOVES.get(name, BREACHES[name])
-        more = " (%s), as compiled code may; `uses` says whether it matters" % name
+        more = " (%s). Correct compiled code may do that" % name
+        more += "; the line `uses` says whether it matters"
         return finding(it["kind"], head + words + more)
     words = BREACHES["StackRange"] if it["leaves_stack"] else BREACHES.get(name, "breaks a rule")
     text = "%s%s (%s%s)" % (head, words, name, ", longjmp" if it["longjmp"] else "")
-    return finding(it["kind"], text, it["calls"], effect_of(it), breach_notes(it))
+    effect = effect_of(it)
+    if it["calls"] and not it["calls"][0].text and effect != it["instruction"]:
+        effect = "%s  %s" % (it["instruction"], effect)  # there is no line of C that shows it
+    return finding(it["kind"], text, it["calls"], effect, breach_notes(it))
 
 
 def breach_notes(it: Object) -> list[str]:
@@ -247,6 +265,40 @@ def origin(it: Object) -> list[str]:
     return [head, *map(part, it["bytes"])]
 
 
+# ---- Secrets.
+
+
+def secret(it: Object) -> list[str]:
+    if it["answer"] == "whole":
+        return finding("secret", "whole: the run is the same with any other content of %s" % it["secret"])
+    does = next((does for name, does in DECIDES if it["instruction"].startswith(name)), "decided something")
+    if it["access"] and it["access"].address == SENDER:
+        does = "was sent"
+    found = dict.fromkeys(secret_origin(register) for register in it["registers"])
+    notes = ["%s, and %s at %s" % (came, does, line_of(it["place"])) for came in found if came]
+    text = "step %d of core %d uses a bit that depends on %s" % (it["step"], it["core"], it["secret"])
+    return finding("secret", text, it["calls"], effect_of(it), notes)
+
+
+def secret_origin(it: Object) -> str:
+    """Where a register that depends on a secret came from; nothing if that is not known."""
+    if it["from"] is None:
+        return ""
+    if it["from"] == "made":
+        return "a%d was computed at %s" % (it["register"], line_of(it["place"]))
+    name = it["name"] or "%08X" % it["address"]
+    if it["name"] and it["size"] == 1:
+        name += "[%d]" % it["offset"]
+    elif it["offset"]:
+        name += "+%d" % it["offset"]
+    return "%s was loaded at %s" % (name, line_of(it["place"]))
+
+
+def line_of(place: Place) -> str:
+    """A line, or if none is known the function."""
+    return place.short or place.function
+
+
 # ---- Both cores, and interrupts.
 
 
@@ -280,7 +332,7 @@ def interrupts(it: Object) -> list[str]:
     head = " %d of core %d; " % (it["times"], it["core"])
     if not it["lost"]:
         return finding(
-            "interrupts", head + "none between a load and a store of bytes that it changes")
+            "interrupts", head + "none came between a load and a store of bytes that it changes")
     lines = []
     for found in it["lost"]:
         calls = [found["load"], found["store"]]
@@ -288,12 +340,14 @@ def interrupts(it: Object) -> list[str]:
             calls.pop()
         lines += finding(
             "interrupts",
-            " %d of %d of core %d came between a load and a store of %s, and what they stored there"
-            " is lost" % (found["times"], it["times"], it["core"], named(found)), calls)
+            " %d of the %d of core %d came between a load and a store of %s; what they stored there is"
+            " lost" % (found["times"], it["times"], it["core"], named(found)), calls)
     return lines
 
 
-BY_KIND = {"stack": verdict, "uses": verdict, "race": race, "interrupts": interrupts}
+BY_KIND = {
+    "stack": verdict, "uses": verdict, "secret": secret, "race": race, "interrupts": interrupts,
+}
 
 
 def lines_of(it: Object) -> list[str]:

@@ -25,6 +25,8 @@ HAND = (
     ("uses none", "uses", {"answer": "none"}),
     ("uses whole carried 4 0", "uses", {"answer": "whole", "carried0": 4, "carried1": 0}),
     ("uses breach Unset core 0 step 97", "uses", {"kind": "Unset", "core": 0, "step": 97}),
+    ("secrets whole carried 4 0", "secrets", {"answer": "whole", "carried0": 4, "carried1": 0}),
+    ("secrets leak core 0 step 135", "secrets", {"core": 0, "step": 135}),
     ("words 3FFB0000 012C0007 --------", "words",
      {"address": 0x3FFB0000, "words": [0x012C0007, None]}),
     ("image segments 1 entry 40080404 digest yes", "image",
@@ -149,7 +151,7 @@ BROKEN = (
     "0 3 40080000 insn st3 40080000 00000000", "0 3 40080000 insn a=00000000",
     "0 3 40080000 insn | nop | wb 3 ws 000", "0 3 40080000 insn  | nop",
     "0 3 40080000 insn | nop | depth", "words 3FFB0000 0000000", "mem 3FFB0000 7",
-    "uses whole carried 4", "handlers of4 yes", "segment 0 40080400 16", "a2 00000000 known",
+    "uses whole carried 4", "secrets none", "secrets leak core 2 step 1", "handlers of4 yes", "segment 0 40080400 16", "a2 00000000 known",
     "0: 00000000 00000000 00000000", "calls 2", "stuck", "order", "some", "xt: Usage 1",
     "core 0 step 3 pc 400D000D ps 00060020 wb 0 ws 1", "0 pc 400D0009 sp 3FFF7FC0",
 )

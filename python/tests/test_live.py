@@ -115,6 +115,19 @@ class Runs(unittest.TestCase):
         with self.assertRaises(ValueError):
             xt.Run(TOP / "examples/letter.rec", program(), seed=1)
 
+    def test_secrets(self) -> None:
+        """docs/EXAMPLES.md: a secret chooses an entry of a table; of public bytes nothing is secret."""
+        run = xt.Run(image("secret.s"), program(), turns1=0)
+        key = [(0x3FFB0000, 2)]
+        found = run.secrets(key)
+        self.assertEqual((found.leak, found.registers), (xt.Leak(0, 7), [xt.Register(5, 0, 3)]))
+        self.assertEqual(run.report(secret=key).secrets, found)
+        self.assertEqual(run.secrets(key, key), xt.Secrets())
+        with self.assertRaises(xt.RequiredError):
+            run.report(secret=key, require=["secret"])
+        with self.assertRaises(xt.UsageError):
+            run.secrets([(0x3F400000, 1)])
+
     def test_elf(self) -> None:
         run = xt.Run(TOP / "examples/hello.elf", program(), turns1=0)
         self.assertTrue(run.report().sent)

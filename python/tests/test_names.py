@@ -31,6 +31,15 @@ class Names(unittest.TestCase):
         file.flush()
         return xt.Names(file.name) if text[:4] == b"\x7fELF" else xt.Names(None, file.name)
 
+    def test_ranges(self) -> None:
+        """Lists of bytes: a variable has its size, unless the list says another or none is known."""
+        names = self.names(elf_with([("key", 0x3FFB0000, 16, 1, 1), ("end", 0x3FFB0010, 0, 0, 1)]))
+        self.assertEqual(names.ranges("key,key:0x4,0x3FFB0008:2,end:1"), [
+            (0x3FFB0000, 16), (0x3FFB0000, 4), (0x3FFB0008, 2), (0x3FFB0010, 1)])
+        for text in ("", "kex", "end", "key:x", "0x3FFB0000", "key:4:4"):
+            with self.subTest(text), self.assertRaises(ValueError):
+                names.ranges(text)
+
     def test_symbols(self) -> None:
         """Objects, functions and names without a type count, in sections, without names of places."""
         data = elf_with([

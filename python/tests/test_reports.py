@@ -6,7 +6,7 @@ from support import cases
 import xt
 from xt import lines
 from xt.outcomes import OrderBreach
-from xt.report import race_of, uses_of
+from xt.report import race_of, secrets_of, uses_of
 
 LETTER = b"""uart 1
 A
@@ -28,6 +28,11 @@ UNSET = """uses breach Unset core 0 step 97
 0 97 400D0025 insn
 400D0025 CC72 bnez.n a2, 0x400D0030
 a2 00000000 known 00000000
+"""
+LEAK = """secrets leak core 0 step 135
+0 135 400D0055 insn a8=00000043
+400D0055 820800 l8ui a8, a8, 0
+a8 00000000 known FFFFFF00
 """
 LOST = b"""outcome uart 0
 
@@ -81,6 +86,18 @@ class Reports(unittest.TestCase):
         self.assertEqual(report.uses.registers, [xt.Register(2, 0, 0)])
         self.assertEqual([it.core for it in report.turns], [0, 1])
 
+    def test_report_and_secrets(self) -> None:
+        text = LETTER + LEAK.encode() + b"0 0 40080404 insn\n1 0 40080404 stop\n"
+        secrets = xt.Report.of(objects(text)).secrets
+        assert secrets is not None and secrets.turn is not None
+        self.assertEqual((secrets.leak, secrets.is_whole), (xt.Leak(0, 135), False))
+        self.assertEqual((secrets.turn.pc, secrets.instruction), (0x400D0055, "l8ui a8, a8, 0"))
+        self.assertEqual(secrets.registers, [xt.Register(8, 0, 0xFFFFFF00)])
+        self.assertEqual(len(xt.Report.of(objects(text)).turns), 2)
+        whole = xt.Report.of(objects(LETTER + b"secrets whole carried 4 1\n")).secrets
+        self.assertEqual(whole, xt.Secrets(carried=(4, 1)))
+        self.assertIsNone(xt.Report.of(objects(LETTER)).secrets)
+
     def test_no_report(self) -> None:
         with self.assertRaises(xt.LineError):
             xt.Report.of(objects(b"race none\n"))
@@ -108,6 +125,26 @@ class Reports(unittest.TestCase):
                     self.assertEqual(len(uses.registers), sum(it[0] == "a" for it in text.split("\n") if it))
                 count += 1
         self.assertGreater(count, 300)
+
+    def test_secrets_of_cases(self) -> None:
+        """What the cases of secrets.txt say of each run, by the words of the first line."""
+        count = 0
+        for case in cases("secrets.txt"):
+            text = case["output"]
+            words = text.split("\n")[0].split()
+            secrets, left = secrets_of(objects(text.encode()))
+            assert secrets is not None
+            with self.subTest(case["case"]):
+                self.assertEqual((left, secrets.is_whole), ([], words[1] == "whole"))
+                if secrets.leak is None:
+                    self.assertEqual(secrets.carried, (int(words[3]), int(words[4])))
+                else:
+                    assert secrets.turn is not None
+                    self.assertEqual(secrets.leak, xt.Leak(int(words[3]), int(words[5])))
+                    self.assertEqual((secrets.turn.core, secrets.turn.step), (int(words[3]), int(words[5])))
+                    self.assertEqual(len(secrets.registers), sum(it[0] == "a" for it in text.split("\n") if it))
+                count += 1
+        self.assertEqual(count, 100)
 
     def test_races_of_cases(self) -> None:
         """The two turns of a race make accesses that share a byte, and are of both cores."""

@@ -37,7 +37,7 @@ class Findings(unittest.TestCase):
         kinds = [it["kind"] for it in found]
         self.assertEqual((code, kinds), (1, "end end stack uses race".split()))
         core0, core1, stack, uses, race = found
-        self.assertEqual((core0["core"], core0["end"], core0["turns"]), (0, "break", 336))
+        self.assertEqual((core0["core"], core0["end"], core0["turns"]), (0, "break", 337))
         self.assertEqual((core1["core"], core1["end"], core1["finding"]), (1, "idle", False))
         self.assertEqual(
             [stack[it] for it in ("answer", "breach", "core", "step", "finding", "longjmp")],

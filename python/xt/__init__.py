@@ -12,8 +12,8 @@ from .outcomes import Outcome, Outcomes
 from .program import Program
 from .recording import Checkpoint, Entry, Recording
 from .report import (
-    Breach, Calls, Count, Event, Handler, Others, Profile, Race, Register, Report, Stop, Uses,
-    Verdict,
+    Breach, Calls, Count, Event, Handler, Leak, Others, Profile, Race, Register, Report, Secrets,
+    Stop, Uses, Verdict,
 )
 from .run import Options, Run
 from .session import Frame, Memory, Registers, RingWindow, Session
@@ -21,9 +21,10 @@ from .turns import Access, Area, Known, Turn, Window, Write
 
 __all__ = [
     "Access", "Area", "AsmError", "Breach", "Calls", "Checkpoint", "Count", "ElfError", "Entry",
-    "Event", "Frame", "Handler", "ImageError", "Known", "LineError", "Memory", "Missing", "Names",
-    "Options", "Others", "OutOfMemory", "Outcome", "Outcomes", "PastEnd", "Place", "Profile",
-    "Program", "Race", "ReadFault", "Recording", "RecordingError", "Register", "Registers",
-    "Report", "RequiredError", "RingWindow", "Run", "Session", "Stop", "Symbol", "TooLargeError",
-    "Turn", "UsageError", "Uses", "Verdict", "Window", "Write", "WriteFault", "XtError",
+    "Event", "Frame", "Handler", "ImageError", "Known", "Leak", "LineError", "Memory", "Missing",
+    "Names", "Options", "Others", "OutOfMemory", "Outcome", "Outcomes", "PastEnd", "Place",
+    "Profile", "Program", "Race", "ReadFault", "Recording", "RecordingError", "Register",
+    "Registers", "Report", "RequiredError", "RingWindow", "Run", "Secrets", "Session", "Stop",
+    "Symbol", "TooLargeError", "Turn", "UsageError", "Uses", "Verdict", "Window", "Write",
+    "WriteFault", "XtError",
 ]

@@ -397,6 +397,13 @@ FORMS: dict[str, list[Form]] = {
         ),
         Form("uses", "uses " + BREACH),
     ],
+    "secrets": [
+        Form(
+            "secrets",
+            f"secrets (?P<answer>whole) carried (?P<carried0>{NUMBER}) (?P<carried1>{NUMBER})",
+        ),
+        Form("secrets", f"secrets leak {CORE} step (?P<step>{NUMBER})"),
+    ],
     "words": [Form("words", f"words (?P<address>{WORD})(?P<words>(?: (?:{WORD}|-{{8}}))*)")],
     "mem": [Form("mem", f"mem (?P<address>{WORD})(?P<memory>(?: (?:[0-9A-F]{{2}}|--))*)")],
     "calls": [Form("callers", "calls (?P<core>[01])(?: (?P<answer>none))?")],

@@ -165,6 +165,26 @@ class Names:
         address = self.find(name)
         return [] if address is None else [address]
 
+    def ranges(self, text: str) -> list[tuple[int, int]]:
+        """The bytes that a list names: of each part `NAME`, a variable, `NAME:LEN` or `ADDR:LEN` the
+        address and how many bytes. A ValueError says what is wrong with a part."""
+        return [self.range_of(part) for part in text.split(",")]
+
+    def range_of(self, part: str) -> tuple[int, int]:
+        """The same of one part."""
+        name, _, count = part.partition(":")
+        sizes = {(it.address, it.size) for it in self.symbols if it.name == name}
+        if re.fullmatch("0x[0-9A-Fa-f]{1,8}|[0-9]+", name) and not sizes:
+            sizes = {(int(name, 0), 0)}
+        if len(sizes) != 1:
+            raise ValueError(f"there {'are several' if sizes else 'is no'} {name}")
+        (address, size), = sizes
+        if count and not re.fullmatch("0x[0-9A-Fa-f]{1,8}|[0-9]+", count):
+            raise ValueError(f"{count} is no number of bytes")
+        if not count and not size:
+            raise ValueError(f"it is not known how many bytes {name} has: write {name}:LEN")
+        return address, int(count, 0) if count else size
+
     def source_of(self, path: str) -> list[str]:
         """The lines of a file, none if it cannot be read."""
         if path not in self.sources:

@@ -59,7 +59,8 @@ class Verdict:
 
 @dataclass(frozen=True)
 class Register:
-    """A register that a breach of `uses` reads: its value and which bits are known, or its mark."""
+    """A register that a breach of `uses`, or a leak of `secrets`, reads: its value and which bits
+    are known, or its mark."""
 
     register: int
     value: Optional[int] = None
@@ -75,6 +76,30 @@ class Uses:
     turn: Optional[Turn] = None
     instruction: str = ""
     registers: list[Register] = field(default_factory=list)
+
+
+@dataclass(frozen=True)
+class Leak:
+    """The first turn that uses a bit which depends on a secret."""
+
+    core: int
+    step: int
+
+
+@dataclass(frozen=True)
+class Secrets:
+    """What `secrets` prints: the leak with its turn, its instruction and registers; or that there
+    is none, and how many turns of each core carried a secret."""
+
+    leak: Optional[Leak] = None
+    carried: tuple[int, int] = (0, 0)
+    turn: Optional[Turn] = None
+    instruction: str = ""
+    registers: list[Register] = field(default_factory=list)
+
+    @property
+    def is_whole(self) -> bool:
+        return self.leak is None
 
 
 @dataclass(frozen=True)
@@ -163,6 +188,7 @@ class Report:
     race: Optional[Race] = None
     profile: Optional[Profile] = None
     uses: Optional[Uses] = None
+    secrets: Optional[Secrets] = None
     turns: list[Turn] = field(default_factory=list)
 
     @classmethod
@@ -181,6 +207,7 @@ class Report:
         made.events = [Event(**rest(it)) for it in kind(rows, "events")]
         made.race, rows = race_of(rows)
         made.uses, rows = uses_of(rows)
+        made.secrets, rows = secrets_of(rows)
         if any(it["line"] in ("profile", "others") for it in rows):
             made.profile = Profile.of(rows)
         made.turns = [Turn.of(it) for it in kind(rows, "turn")]
@@ -220,16 +247,33 @@ def uses_of(rows: list[Object]) -> tuple[Optional[Uses], list[Object]]:
     for at, it in enumerate(rows):
         if it["line"] != "uses":
             continue
-        verdict, end = Verdict.of(it), at + 1
+        verdict = Verdict.of(it)
         if verdict.breach is None:
-            return Uses(verdict), rows[:at] + rows[end:]
-        turn, end = Turn.of(rows[end]), end + 1
-        instruction = ""
-        if end < len(rows) and rows[end]["line"] == "instruction":
-            instruction, end = rows[end]["instruction"], end + 1
-        registers = []
-        while end < len(rows) and rows[end]["line"] == "register":
-            registers.append(Register(**rest(rows[end])))
-            end += 1
-        return Uses(verdict, turn, instruction, registers), rows[:at] + rows[end:]
+            return Uses(verdict), rows[:at] + rows[at + 1:]
+        turn, instruction, registers, left = shown(rows[at + 1:])
+        return Uses(verdict, turn, instruction, registers), rows[:at] + left
     return None, rows
+
+
+def secrets_of(rows: list[Object]) -> tuple[Optional[Secrets], list[Object]]:
+    """What a text says of secrets, if it does, and the text without its lines."""
+    for at, it in enumerate(rows):
+        if it["line"] != "secrets":
+            continue
+        if "step" not in it:
+            return Secrets(carried=(it["carried0"], it["carried1"])), rows[:at] + rows[at + 1:]
+        turn, instruction, registers, left = shown(rows[at + 1:])
+        leak = Leak(it["core"], it["step"])
+        return Secrets(leak, (0, 0), turn, instruction, registers), rows[:at] + left
+    return None, rows
+
+
+def shown(rows: list[Object]) -> tuple[Turn, str, list[Register], list[Object]]:
+    """The turn, the instruction and the registers with which these lines begin, and the others."""
+    turn, end, instruction, registers = Turn.of(rows[0]), 1, "", []
+    if end < len(rows) and rows[end]["line"] == "instruction":
+        instruction, end = rows[end]["instruction"], end + 1
+    while end < len(rows) and rows[end]["line"] == "register":
+        registers.append(Register(**rest(rows[end])))
+        end += 1
+    return turn, instruction, registers, rows[end:]

@@ -10,11 +10,23 @@ from .names import Names, beside
 from .outcomes import Outcomes
 from .program import Data, Program, contents
 from .recording import Recording
-from .report import Count, Event, Profile, Race, Report, Uses, kind, race_of, rest, uses_of
+from .report import (
+    Count, Event, Profile, Race, Report, Secrets, Uses, kind, race_of, rest, secrets_of, uses_of,
+)
 from .session import Session
 from .turns import Turn
 
 Stack = Union[tuple[int, int], str]
+Places = Sequence[tuple[int, int]]
+
+
+def places(**given: Places) -> list[str]:
+    """Options that list places of memory, pairs of an address and a number, as words."""
+    found: list[str] = []
+    for name, pairs in given.items():
+        if pairs:
+            found += ["--" + name, ",".join(f"0x{at:08X}:{count}" for at, count in pairs)]
+    return found
 
 
 @dataclass(frozen=True)
@@ -95,14 +107,14 @@ class Run:
 
     # ---- Of the image.
 
-    def report(self, *flags: str, memory: Sequence[tuple[int, int]] = (),
+    def report(self, *flags: str, memory: Places = (), secret: Places = (), public: Places = (),
                require: Sequence[str] = ()) -> Report:
         """The report of the run. `flags` are words of `events`, `race`, `profile`, `uses` and
-        `trace`; `memory` are pairs of an address and a number of words; if a word of `require` is
-        not met, this ends with a `RequiredError`."""
+        `trace`; `memory` are pairs of an address and a number of words, `secret` and `public` of
+        an address and a number of bytes; if a word of `require` is not met, this ends with a
+        `RequiredError`."""
         words = ["run", *self.again(), *(f"--{it}" for it in flags)]
-        if memory:
-            words += ["--memory", ",".join(f"0x{at:08X}:{count}" for at, count in memory)]
+        words += places(memory=memory, secret=secret, public=public)
         if require:
             words += ["--require", ",".join(require)]
         return Report.parse(self.program.call(words, self.image))
@@ -163,6 +175,14 @@ class Run:
         """The first breach of the stack's rules if unknown values may be carried."""
         rows = self.program.objects(["uses"] + ["--lenient"] * lenient, self.recording)
         found = uses_of(list(rows))[0]
+        assert found is not None
+        return found
+
+    def secrets(self, secret: Places, public: Places = ()) -> Secrets:
+        """The first turn that lets one of these secret bytes decide something, or that there is
+        none; the places are pairs of an address and a number of bytes."""
+        words = ["secrets", *places(secret=secret, public=public)]
+        found = secrets_of(list(self.program.objects(words, self.recording)))[0]
         assert found is not None
         return found
 

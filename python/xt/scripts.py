@@ -3,9 +3,11 @@ from __future__ import annotations
 
 import os
 import sys
-from typing import Callable, NoReturn
+from typing import Callable, NoReturn, Optional
 
 from .errors import UsageError, XtError
+from .names import Names
+from .run import places
 
 # The options of `run` that have a value and that scripts pass on.
 VALUED = "--turns0 --turns1 --entry1 --vecbase --stack0 --stack1 --seed --order --require".split()
@@ -21,6 +23,16 @@ class Refused(Exception):
 
 def refuse(code: int, reason: str) -> NoReturn:
     raise Refused(code, reason)
+
+
+def secret_words(names: Names, secret: Optional[str], public: Optional[str]) -> list[str]:
+    """The words `--secret LIST` and `--public LIST`, if there are lists, of which each part may name a
+    variable. A part that is none is refused."""
+    given = {"secret": secret, "public": public}
+    try:
+        return places(**{name: names.ranges(text) for name, text in given.items() if text is not None})
+    except ValueError as fault:
+        refuse(64, f"{os.path.basename(sys.argv[0])}: {fault}")
 
 
 def run_main(main: Callable[[], int]) -> int:

@@ -36,6 +36,7 @@ refusal_is_fault (job.Trace turns) input s h = recording_is_fault input s h
 refusal_is_fault job.Race input s h = recording_is_fault input s h
 refusal_is_fault (job.Profile options) input s h = recording_is_fault input s h
 refusal_is_fault (job.Uses d) input s h = recording_is_fault input s h
+refusal_is_fault (job.Secrets options) input s h = recording_is_fault input s h
 refusal_is_fault (job.Outcomes options) input s h = image_is_fault input s h
 
 -- ---- what was written of an input that was read to its end
@@ -155,6 +156,7 @@ whole_unless job.Counts others scripts = tt
 whole_unless job.Race others scripts = tt
 whole_unless (job.Profile options) others scripts = tt
 whole_unless (job.Uses d) others scripts = tt
+whole_unless (job.Secrets options) others scripts = tt
 whole_unless (job.Outcomes options) others scripts = tt
 
 -- no script leads such a command beyond a run
@@ -172,6 +174,7 @@ never_beyond job.Counts whole = λ input. refl
 never_beyond job.Race whole = λ input. refl
 never_beyond (job.Profile options) whole = λ input. refl
 never_beyond (job.Uses d) whole = λ input. refl
+never_beyond (job.Secrets options) whole = λ input. refl
 never_beyond (job.Outcomes options) whole = λ input. refl
 
 -- ---- a refusal, before anything was written

@@ -16,6 +16,7 @@ use Rattle.xt_record.specs.Format.{run_in}
 use Rattle.xt_debug.specs.declared.script.Command as script
 use Rattle.xt_debug.specs.Scripts.{script_outcome}
 use Rattle.xt_use_report.specs.UseFindings.{IsUsesTold}
+use Rattle.xt_use_report.specs.SecretFindings.{AreSecretsTold}
 use Rattle.xt_command_line.specs.declared.beyond.Beyond.{Beyond}
 use Rattle.xt_command_line.specs.declared.command.Refusal.{Refusal}
 use Rattle.xt_command_line.specs.declared.command.Refusal.TheVariants as refusal
@@ -55,6 +56,7 @@ limit_of (job.Trace turns) = 201326592
 limit_of job.Race = 201326592
 limit_of (job.Profile options) = 201326592
 limit_of (job.Uses d) = 201326592
+limit_of (job.Secrets options) = 201326592
 limit_of (job.Outcomes options) = 8388608
 
 -- the status with which a command refuses a whole input, where it does: that of the input's first
@@ -73,6 +75,7 @@ refusal_of (job.Trace turns) input = recording_refusal input
 refusal_of job.Race input = recording_refusal input
 refusal_of (job.Profile options) input = recording_refusal input
 refusal_of (job.Uses d) input = recording_refusal input
+refusal_of (job.Secrets options) input = recording_refusal input
 refusal_of (job.Outcomes options) input = image_refusal input
 
 -- what a script prints over the run that a recording holds
@@ -100,6 +103,8 @@ IsWritten (job.Trace turns) input bytes = bytes ≡ trace_output turns input
 IsWritten job.Race input bytes = IsRaceTold input bytes
 IsWritten (job.Profile options) input bytes = bytes ≡ profile_output options input
 IsWritten (job.Uses d) input bytes = IsUsesTold d (image_in input) (run_in input) bytes
+IsWritten (job.Secrets options) input bytes =
+    AreSecretsTold (image_in input) (run_in input) options.secret options.public bytes
 IsWritten (job.Outcomes options) input bytes = AreOutcomesTold options (image_of input) bytes
 
 -- the command does not refuse the input, and writes these bytes

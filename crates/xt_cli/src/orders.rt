@@ -89,6 +89,7 @@ pub(crate) fn order_in(alloc: Global, words: &[String]) -> Result<Order, Refusal
         Ok(Command::Race) => Ok(Order::Work(Job::Race)),
         Ok(Command::Profile(options)) => Ok(Order::Work(Job::Profile(options))),
         Ok(Command::Uses(rigor)) => Ok(Order::Work(Job::Uses(discipline_of(rigor)))),
+        Ok(Command::Secrets(options)) => Ok(Order::Work(Job::Secrets(options))),
         Ok(Command::Outcomes(options)) => Ok(Order::Work(Job::Outcomes(options))),
         Ok(Command::Run(options)) => Ok(Order::Run(Wanted::Report, options)),
         Ok(Command::Record(options)) => Ok(Order::Run(Wanted::Recording, options)),

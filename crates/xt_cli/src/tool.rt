@@ -9,7 +9,9 @@ ghost use Rattle.xt_cli.specs.Tools.{Answers, Finishes, IsComplete, IsMade, Make
 use crate::orders::{Order, order_in};
 use crate::outcomes::outcomes;
 use std::alloc::Global;
-use xt_command_line::{Beyond, Listing, OutcomeOptions, ProfileOptions, Refusal, Turns};
+use xt_command_line::{
+    Beyond, Listing, OutcomeOptions, ProfileOptions, Refusal, SecretOptions, Turns,
+};
 use xt_debug::{Printed, Script, run_script};
 use xt_image::well_formed_is_placed;
 use xt_io::{ReadError, Sink, Source, read_to_limit};
@@ -19,7 +21,7 @@ use xt_session::session;
 use xt_status::{IMAGE_LIMIT, RECORDING_LIMIT, Status, recording_in, status_after, write_text};
 use xt_tools::{
     ELF_LIMIT, TEXT_LIMIT, check, converted_file, counts, events, image_file, list, map_text,
-    migrate, profile, race, trace, uses,
+    migrate, profile, race, secrets, trace, uses,
 };
 use xt_uses::Discipline;
 
@@ -52,6 +54,8 @@ pub enum Job {
     Profile(ProfileOptions),
     /// `uses`: the first breach of a recorded run by this discipline of uses.
     Uses(Discipline),
+    /// `secrets`: the first leak of these secrets in a recorded run.
+    Secrets(SecretOptions),
     /// `outcomes`: everything that can come out of an image, with these options.
     Outcomes(OutcomeOptions),
 }
@@ -90,7 +94,8 @@ fn limit_of(job: &Job) -> usize
         | Job::Trace(_)
         | Job::Race
         | Job::Profile(_)
-        | Job::Uses(_) => RECORDING_LIMIT,
+        | Job::Uses(_)
+        | Job::Secrets(_) => RECORDING_LIMIT,
     }
 }
 
@@ -130,6 +135,7 @@ fn make(alloc: Global, job: &Job, input: &[u8]) -> Result<Text, Status>
         Job::Race => race(alloc, input),
         Job::Profile(options) => profile(alloc, *options, input),
         Job::Uses(discipline) => uses(alloc, *discipline, input),
+        Job::Secrets(options) => secrets(alloc, options, input),
         Job::Outcomes(options) => outcomes(alloc, options, input),
         Job::Trace(_) => unreachable!(),
         Job::Replay(_, _) => unreachable!(),
@@ -231,7 +237,7 @@ fn carry_out<S: Source, K: Sink>(alloc: Global, order: &Order, source: &mut S, s
 
 /// What the program does with the words after its name, a source and a sink, where it needs no
 /// thread: it answers every word that has no meaning, and does the work of `asm`, `elf`, `dis`, `map`, `check`,
-/// `migrate`, `replay`, `events`, `counts`, `trace`, `race`, `profile`, `uses` and `outcomes`, and a session of `replay`. It waits for nobody and returns.
+/// `migrate`, `replay`, `events`, `counts`, `trace`, `race`, `profile`, `uses`, `secrets` and `outcomes`, and a session of `replay`. It waits for nobody and returns.
 ///
 /// Words that ask for `run`, `record` or `gen` are handed back as `Threaded`, and nothing was then read or
 /// written.

@@ -1,13 +1,13 @@
 -- The rules of usage that options keep.
 use Rattle.std.proofs.Common.{◌≡◌, ◌≢◌, ℕ, ◌≤◌, ◌%◌, ◌&&◌, Bool, true, false, List, [], ◌∷◌, Option, Some, None, Result, Ok, Err, arith, codes, refl, rules}
-use Rattle.std.specs.Prelude.{◌==◌, nat_le, unwrap_or, if◌then◌else◌}
+use Rattle.std.specs.Prelude.{◌==◌, is_none, nat_le, unwrap_or, if◌then◌else◌}
 use Rattle.std.proofs.lemmas.Bool.Decides.{nat_tests}
 use Rattle.clap.specs.Words.{Row, Text, first_of}
 use Rattle.xt_map.specs.Regions.{region_of, is_executable}
 use Rattle.xt_trace.specs.Validity.{IsValid, IsValidStack, most_turns}
 use Rattle.xt_trace.specs.declared.options.Stack.{Stack}
-use Rattle.xt_command_line.specs.Options.{AcceptsValid, OptionsNeedNoMemory, Texts, by_rows, first_broken, is_entry, is_set, is_stack, options_or_refusal, judged_texts, judged_with, options_in, record_app, record_options_of, run_app, run_options_of, said_or, texts_of, unless_broken}
-use Rattle.xt_command_line.specs.Arguments.{check_app, gen_app, generator_number_of, judged_number, judged_vecbase, number_by, number_in, rigor_by, rigor_of, uses_app, vecbase_by, vecbase_of}
+use Rattle.xt_command_line.specs.Options.{AcceptsValid, OptionsNeedNoMemory, Texts, are_secrets_required, by_rows, first_broken, is_entry, is_set, is_stack, keeping, options_or_refusal, options_with, judged_texts, judged_with, options_in, record_app, record_options_of, run_app, run_options_of, said_or, texts_of, unless_broken, with_secrets}
+use Rattle.xt_command_line.specs.Arguments.{check_app, gen_app, generator_number_of, judged_number, judged_vecbase, needed_secrets, number_by, number_in, rigor_by, rigor_of, secret_options_by, secret_options_of, secrets_app, secrets_needed, uses_app, vecbase_by, vecbase_of}
 use Rattle.xt_command_line.specs.Turns.{chosen_turns, core_of, trace_app, turns_by, turns_of}
 use Rattle.xt_command_line.specs.MeaningAnswers.{answer_with}
 use Rattle.xt_command_line.specs.declared.command.Rigor.TheVariants as rigor
@@ -22,7 +22,9 @@ use Rattle.xt_command_line.specs.TurnOrders.{is_short, listed_order, order_in, o
 use Rattle.xt_command_line.specs.Requirements as requirements
 use Rattle.xt_command_line.specs.Requirements.{required_in, requirements_in}
 use Rattle.xt_command_line.specs.Spans as spans
-use Rattle.xt_command_line.specs.Spans.{shown_in, spans_in}
+use Rattle.xt_command_line.specs.Spans.{are_small, shown_in, spans_in}
+use Rattle.xt_command_line.specs.Secrets.{public_in, ranges_in, secrets_by, secrets_in}
+use Rattle.xt_command_line.specs.declared.secrets.SecretOptions.{SecretOptions}
 use Rattle.xt_command_line.specs.declared.command.Command.{Command}
 use Rattle.xt_command_line.specs.declared.command.Command.TheVariants as command
 use Rattle.xt_command_line.specs.declared.command.Name.{Name}
@@ -72,7 +74,10 @@ required-answers (Some text) = some_required-answers (requirements_in text)
 
 some_shown-answers : (list : Option (List Span)) → spans.spans_or_refusal list ≢ Err refusal.Memory
 some_shown-answers None = λ e. search (rules, e)
-some_shown-answers (Some list) = λ e. search (rules, e)
+some_shown-answers (Some list) = elim (are_small list) as (λ b. (if b then Ok (Some list) else Err (refusal.Usage 4)) ≢ Err refusal.Memory) [
+  | true ↦ λ e. search (rules, e)
+  | false ↦ λ e. search (rules, e)
+]
 
 shown-answers : (text : Option Text) → shown_in text ≢ Err refusal.Memory
 shown-answers None = λ e. search (rules, e)
@@ -85,12 +90,38 @@ judged_with-answers t (Ok order) (Err r) shown p q s = λ e. q (cc)
 judged_with-answers t (Ok order) (Ok required) (Err r) p q s = λ e. s (cc)
 judged_with-answers t (Ok order) (Ok required) (Ok shown) p q s = judged-answers (options_in t order required shown)
 
+secrets_by-answers : (secret public : Option (List (ℕ × ℕ))) → secrets_by secret public ≢ Err refusal.Memory
+secrets_by-answers (Some secret) (Some public) = λ e. search (rules, e)
+secrets_by-answers (Some secret) None = λ e. search (rules, e)
+secrets_by-answers None public = λ e. search (rules, e)
+
+secrets-answers : (secret public : Option Text) → secrets_in secret public ≢ Err refusal.Memory
+secrets-answers None None = λ e. search (rules, e)
+secrets-answers None (Some public) = λ e. search (rules, e)
+secrets-answers (Some secret) public = secrets_by-answers (ranges_in secret) (public_in public)
+
+options_with-answers : (o : RunOptions) (secrets : Option SecretOptions) → options_with o secrets ≢ Err refusal.Memory
+options_with-answers o secrets = elim (is_none secrets && are_secrets_required o.required) as (λ b. (if b then Err (refusal.Usage 10) else Ok (keeping o secrets)) ≢ Err refusal.Memory) [
+  | true ↦ λ e. search (rules, e)
+  | false ↦ λ e. search (rules, e)
+]
+
+with_secrets-answers : (options : Result RunOptions Refusal) (secrets : Result (Option SecretOptions) Refusal)
+    → options ≢ Err refusal.Memory → secrets ≢ Err refusal.Memory → with_secrets options secrets ≢ Err refusal.Memory
+with_secrets-answers (Err r) secrets p q = λ e. p (cc)
+with_secrets-answers (Ok o) (Err r) p q = λ e. q (cc)
+with_secrets-answers (Ok o) (Ok secrets) p q = options_with-answers o secrets
+
+texts-answers : (t : Texts) → judged_texts t ≢ Err refusal.Memory
+texts-answers t =
+    with_secrets-answers (judged_with t (order_in t.seed t.order) (required_in t.require) (shown_in t.memory)) (secrets_in t.secret t.public)
+    (judged_with-answers t (order_in t.seed t.order) (required_in t.require) (shown_in t.memory)
+    (order-answers t.seed t.order) (required-answers t.require) (shown-answers t.memory))
+    (secrets-answers t.secret t.public)
+
 by_rows-answers : (rows : Option (List Row)) → by_rows rows ≢ Err refusal.Memory
 by_rows-answers None = λ e. search (rules, e)
-by_rows-answers (Some rows) =
-    let t = texts_of rows in
-    judged_with-answers t (order_in t.seed t.order) (required_in t.require) (shown_in t.memory)
-    (order-answers t.seed t.order) (required-answers t.require) (shown-answers t.memory)
+by_rows-answers (Some rows) = texts-answers (texts_of rows)
 
 pub need_no_memory : OptionsNeedNoMemory
 need_no_memory words = (by_rows-answers (rows_by run_app words), by_rows-answers (rows_by record_app words))
@@ -131,6 +162,20 @@ rigor_by-answers (Some rows) = elim (is_set (first_of (codes "lenient") rows)) a
   | true ↦ λ e. search (rules, e)
   | false ↦ λ e. search (rules, e)
 ]
+
+needed_secrets-answers : (secrets : Option SecretOptions) → needed_secrets secrets ≢ Err refusal.Memory
+needed_secrets-answers None = λ e. search (rules, e)
+needed_secrets-answers (Some s) = λ e. search (rules, e)
+
+secrets_needed-answers : (secrets : Result (Option SecretOptions) Refusal) → secrets ≢ Err refusal.Memory → secrets_needed secrets ≢ Err refusal.Memory
+secrets_needed-answers (Err r) p = λ e. p (cc)
+secrets_needed-answers (Ok secrets) p = needed_secrets-answers secrets
+
+secret_options_by-answers : (rows : Option (List Row)) → secret_options_by rows ≢ Err refusal.Memory
+secret_options_by-answers None = λ e. search (rules, e)
+secret_options_by-answers (Some rows) =
+    secrets_needed-answers (secrets_in (first_of (codes "secret") rows) (first_of (codes "public") rows))
+    (secrets-answers (first_of (codes "secret") rows) (first_of (codes "public") rows))
 
 abbrev profile_options : ℕ → Bool → ProfileOptions
 profile_options d after = record { depth = d; after = after }
@@ -181,9 +226,7 @@ outcomes_by-answers : (rows : Option (List Row)) → outcomes_by rows ≢ Err re
 outcomes_by-answers None = λ e. search (rules, e)
 outcomes_by-answers (Some rows) =
     let t = texts_of rows in
-    outcomes_if-answers _ _ (outcomes_with-answers _ (places_of (word_texts rows)) (said_or states_of 1000000 (first_of (codes "states") rows)) (judged_texts t)
-    (judged_with-answers t (order_in t.seed t.order) (required_in t.require) (shown_in t.memory)
-    (order-answers t.seed t.order) (required-answers t.require) (shown-answers t.memory)))
+    outcomes_if-answers _ _ (outcomes_with-answers _ (places_of (word_texts rows)) (said_or states_of 1000000 (first_of (codes "states") rows)) (judged_texts t) (texts-answers t))
 
 without_options-answers : (c : Command) (rows : Option (List Row)) → without_options c rows ≢ Err refusal.Memory
 without_options-answers c None = λ e. search (rules, e)
@@ -205,6 +248,7 @@ meaning_by-answers (Some name.Counts) words = without_options-answers _ _
 meaning_by-answers (Some name.Race) words = without_options-answers _ _
 meaning_by-answers (Some name.Profile) words = answer_with-answers command.Profile (profile_options_of words) (profile_options_by-answers (rows_by profile_app words))
 meaning_by-answers (Some name.Uses) words = answer_with-answers command.Uses (rigor_of words) (rigor_by-answers (rows_by uses_app words))
+meaning_by-answers (Some name.Secrets) words = answer_with-answers command.Secrets (secret_options_of words) (secret_options_by-answers (rows_by secrets_app words))
 meaning_by-answers (Some name.Trace) words = answer_with-answers command.Trace (turns_of words) (turns_by-answers (rows_by trace_app words))
 meaning_by-answers (Some name.Outcomes) words = answer_with-answers command.Outcomes (outcomes_of words) (outcomes_by-answers (rows_by outcomes_app words))
 meaning_by-answers (Some name.Generate) words = answer_with-answers command.Generate (generator_number_of words) (number_by-answers (rows_by gen_app words))

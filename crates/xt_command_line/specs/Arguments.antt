@@ -1,14 +1,16 @@
--- What the words of `check`, `gen`, `replay` and `uses` say ('profile').
+-- What the words of `check`, `gen`, `replay`, `uses` and `secrets` say ('profile').
 use Rattle.std.specs.Prelude.{◌≡◌, ℕ, ◌%◌, true, ◌==◌, List, Option, Some, None, Result, Ok, Err}
 use Rattle.std.specs.Prelude.{if◌then◌else◌, codes, option_and_then}
 use Rattle.clap.specs.Words.{App, Row, Rule, Text, first_of, new_app, new_rule, with_rule}
 use Rattle.xt_command_line.specs.Numbers.{number_of}
 use Rattle.xt_command_line.specs.Options.{is_set, said_or, with_flag, with_option}
+use Rattle.xt_command_line.specs.Secrets.{secrets_in}
 use Rattle.xt_command_line.specs.Simple.{rows_by}
 use Rattle.xt_command_line.specs.declared.command.Refusal.{Refusal}
 use Rattle.xt_command_line.specs.declared.command.Rigor.{Rigor}
 use Rattle.xt_command_line.specs.declared.command.Rigor.TheVariants as rigor
 use Rattle.xt_command_line.specs.declared.command.Refusal.TheVariants as refusal
+use Rattle.xt_command_line.specs.declared.secrets.SecretOptions.{SecretOptions}
 
 -- ---- check [--vecbase N]
 
@@ -90,3 +92,29 @@ rigor_by (Some rows) =
 -- the rigor that the words of `uses` say, or the rule of usage that they break
 abbrev pub rigor_of : List Text → Result Rigor Refusal
 rigor_of words = rigor_by (rows_by uses_app words)
+
+-- ---- secrets --secret LIST [--public LIST]
+
+abbrev pub secrets_app : App
+secrets_app =
+    with_option (with_option (new_app (codes "secrets")) (codes "secret")) (codes "public")
+
+-- what is secret, which has to be said
+abbrev pub needed_secrets : Option SecretOptions → Result SecretOptions Refusal
+needed_secrets None = Err (refusal.Usage 10)
+needed_secrets (Some secrets) = Ok secrets
+
+abbrev pub secrets_needed :
+    Result (Option SecretOptions) Refusal → Result SecretOptions Refusal
+secrets_needed (Err r) = Err r
+secrets_needed (Ok secrets) = needed_secrets secrets
+
+abbrev pub secret_options_by : Option (List Row) → Result SecretOptions Refusal
+secret_options_by None = Err (refusal.Usage 3)
+secret_options_by (Some rows) =
+    secrets_needed
+    (secrets_in (first_of (codes "secret") rows) (first_of (codes "public") rows))
+
+-- what the words of `secrets` say to be secret, or the first rule of usage that they break
+abbrev pub secret_options_of : List Text → Result SecretOptions Refusal
+secret_options_of words = secret_options_by (rows_by secrets_app words)

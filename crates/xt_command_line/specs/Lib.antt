@@ -4,6 +4,7 @@ pub mod MeaningAnswers
 pub mod TurnOrders
 pub mod Requirements
 pub mod Spans
+pub mod Secrets
 pub mod Options
 pub mod Arguments
 pub mod Beyond

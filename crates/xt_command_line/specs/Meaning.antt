@@ -7,7 +7,8 @@ use Rattle.clap.specs.Words.{Row, Text, new_app}
 use Rattle.xt_command_line.specs.Simple.{rows_by}
 use Rattle.xt_command_line.specs.MeaningAnswers.{answer_with}
 use Rattle.xt_command_line.specs.Options.{AreValid, record_options_of, run_options_of}
-use Rattle.xt_command_line.specs.Arguments.{IsVecbase, generator_number_of, rigor_of, vecbase_of}
+use Rattle.xt_command_line.specs.Arguments.{IsVecbase, generator_number_of, rigor_of}
+use Rattle.xt_command_line.specs.Arguments.{secret_options_of, vecbase_of}
 use Rattle.xt_command_line.specs.Turns.{turns_of}
 use Rattle.xt_command_line.specs.Depths.{profile_options_of}
 use Rattle.xt_command_line.specs.Listings.{IsListing, listing_of}
@@ -37,6 +38,7 @@ names =
     ∷ (codes "race", name.Race)
     ∷ (codes "profile", name.Profile)
     ∷ (codes "uses", name.Uses)
+    ∷ (codes "secrets", name.Secrets)
     ∷ (codes "outcomes", name.Outcomes)
     ∷ (codes "gen", name.Generate)
     ∷ []
@@ -76,6 +78,9 @@ trace_meaning_of words = answer_with command.Trace (turns_of words)
 abbrev pub uses_meaning_of : List Text → Result Command Refusal
 uses_meaning_of words = answer_with command.Uses (rigor_of words)
 
+abbrev pub secrets_meaning_of : List Text → Result Command Refusal
+secrets_meaning_of words = answer_with command.Secrets (secret_options_of words)
+
 abbrev pub profile_meaning_of : List Text → Result Command Refusal
 profile_meaning_of words = answer_with command.Profile (profile_options_of words)
 
@@ -106,6 +111,7 @@ meaning_by (Some name.Race) words =
     without_options command.Race (rows_by (new_app (codes "race")) words)
 meaning_by (Some name.Profile) words = profile_meaning_of words
 meaning_by (Some name.Uses) words = uses_meaning_of words
+meaning_by (Some name.Secrets) words = secrets_meaning_of words
 meaning_by (Some name.Outcomes) words = outcomes_meaning_of words
 meaning_by (Some name.Generate) words = gen_meaning_of words
 
@@ -140,6 +146,7 @@ TakesMemory (Some name.Trace) = Unit {0}
 TakesMemory (Some name.Race) = Unit {0}
 TakesMemory (Some name.Profile) = Unit {0}
 TakesMemory (Some name.Uses) = Unit {0}
+TakesMemory (Some name.Secrets) = Unit {0}
 TakesMemory (Some name.Outcomes) = Unit {0}
 TakesMemory (Some name.Generate) = Unit {0}
 TakesMemory _ = ⊥

@@ -1,13 +1,14 @@
 -- The options of `run` and `record` ('profile').
 --
 -- Profile: the words break the first rule of usage that fails: no command, an unknown one, words
--- that do not match, a text that is no number, range or list, and then the limits in the order of
--- `limits`. HELP.txt has what holds without an option.
+-- that do not match, a text that is no number, range or list, then the limits in the order of
+-- `limits`, and then the rule of what is secret. HELP.txt has what holds without an option.
+-- Profile: nobody can require of a run that it keeps its secrets and say of none what they are.
 -- Note: `entry1` is judged only where it is given; otherwise it is the image's entry, which the
 -- image's rules judge.
-use Rattle.std.specs.Prelude.{◌≡◌, ◌≢◌, ℕ, ◌+◌, ◌%◌, Bool, true, false, ◌==◌, ◌&&◌, nat_le, List}
-use Rattle.std.specs.Prelude.{[], ◌∷◌, ◌++◌, fold, Option, Some, None, unwrap_or, option_map, Result, Ok}
-use Rattle.std.specs.Prelude.{Err, if◌then◌else◌, codes}
+use Rattle.std.specs.Prelude.{◌≡◌, ◌≢◌, ℕ, ◌+◌, ◌%◌, Bool, true, false, ◌==◌, ◌&&◌, is_none, nat_le}
+use Rattle.std.specs.Prelude.{List, [], ◌∷◌, ◌++◌, fold, Option, Some, None, unwrap_or, option_map}
+use Rattle.std.specs.Prelude.{Result, Ok, Err, if◌then◌else◌, codes}
 use Rattle.std.specs.Option.{option_map_or}
 use Rattle.std.specs.List.{before_first, after_first}
 use Rattle.std.specs.Str.{bytes_eq}
@@ -20,12 +21,15 @@ use Rattle.xt_trace.specs.declared.options.Options.{Options}
 use Rattle.xt_command_line.specs.Numbers.{number_of}
 use Rattle.xt_command_line.specs.Simple.{rows_by}
 use Rattle.xt_command_line.specs.TurnOrders.{is_short, order_in}
-use Rattle.xt_command_line.specs.Requirements.{required_in}
+use Rattle.xt_command_line.specs.Requirements.{is_among, required_in}
+use Rattle.xt_command_line.specs.Secrets.{secrets_in}
 use Rattle.xt_command_line.specs.Spans.{shown_in}
 use Rattle.xt_command_line.specs.declared.command.Refusal.{Refusal}
 use Rattle.xt_command_line.specs.declared.command.Refusal.TheVariants as refusal
 use Rattle.xt_command_line.specs.declared.options.RunOptions.{RunOptions}
 use Rattle.xt_command_line.specs.declared.requirements.Requirement.{Requirement}
+use Rattle.xt_command_line.specs.declared.requirements.Requirement.TheVariants as requirement
+use Rattle.xt_command_line.specs.declared.secrets.SecretOptions.{SecretOptions}
 use Rattle.xt_command_line.specs.declared.spans.Span.{Span}
 use Rattle.xt_command_line.specs.declared.turn_orders.TurnOrder.{TurnOrder}
 
@@ -66,14 +70,18 @@ required_app name = with_option (fold with_option (new_app name) option_names) (
 abbrev pub record_app : App
 record_app = required_app (codes "record")
 
+-- [--memory LIST] [--secret LIST] [--public LIST]
+abbrev pub list_names : List Text
+list_names = codes "memory" ∷ codes "secret" ∷ codes "public" ∷ []
+
 -- [--events] [--race] [--profile] [--uses] [--trace]
 abbrev pub flag_names : List Text
 flag_names =
     codes "events" ∷ codes "race" ∷ codes "profile" ∷ codes "uses" ∷ codes "trace" ∷ []
 
--- the same options, [--memory LIST], and the flags
+-- the same options, the lists and the flags
 abbrev pub run_app : App
-run_app = fold with_flag (with_option (required_app (codes "run")) (codes "memory")) flag_names
+run_app = fold with_flag (fold with_option (required_app (codes "run")) list_names) flag_names
 
 -- ---- the texts of the options
 
@@ -88,6 +96,8 @@ pub record Texts : Type 0 where
   pub order : Option Text
   pub require : Option Text
   pub memory : Option Text
+  pub secret : Option Text
+  pub public : Option Text
   pub trace : Bool
   pub events : Bool
   pub race : Bool
@@ -110,6 +120,8 @@ texts_of rows = record {
   order = first_of (codes "order") rows;
   require = first_of (codes "require") rows;
   memory = first_of (codes "memory") rows;
+  secret = first_of (codes "secret") rows;
+  public = first_of (codes "public") rows;
   trace = is_set (first_of (codes "trace") rows);
   events = is_set (first_of (codes "events") rows);
   race = is_set (first_of (codes "race") rows);
@@ -165,6 +177,7 @@ options_from
       uses = t.uses;
       required = required;
       memory = memory;
+      secrets = None;
     })
 options_from t order required memory _ _ _ _ _ _ = None
 
@@ -229,9 +242,33 @@ judged_with t (Ok order) (Ok required) (Err r) = Err r
 judged_with t (Ok order) (Ok required) (Ok memory) =
     options_or_refusal (options_in t order required memory)
 
+-- ---- what is secret
+
+-- the requirements ask for `secrets whole`
+abbrev pub are_secrets_required : Option (List Requirement) → Bool
+are_secrets_required None = false
+are_secrets_required (Some list) = is_among requirement.Secret list
+
+-- the options with what is secret
+abbrev pub keeping : RunOptions → Option SecretOptions → RunOptions
+keeping o secrets = record o { secrets = secrets }
+
+abbrev pub options_with : RunOptions → Option SecretOptions → Result RunOptions Refusal
+options_with o secrets =
+    if is_none secrets && are_secrets_required o.required then Err (refusal.Usage 10)
+    else Ok (keeping o secrets)
+
+abbrev pub with_secrets :
+    Result RunOptions Refusal → Result (Option SecretOptions) Refusal → Result RunOptions Refusal
+with_secrets (Err r) secrets = Err r
+with_secrets (Ok o) (Err r) = Err r
+with_secrets (Ok o) (Ok secrets) = options_with o secrets
+
 abbrev pub judged_texts : Texts → Result RunOptions Refusal
 judged_texts t =
-    judged_with t (order_in t.seed t.order) (required_in t.require) (shown_in t.memory)
+    with_secrets
+    (judged_with t (order_in t.seed t.order) (required_in t.require) (shown_in t.memory))
+    (secrets_in t.secret t.public)
 
 -- ---- the meaning of the words
 

@@ -18,6 +18,7 @@ requirement_of word =
     else if bytes_eq word (codes "used") then Some requirement.Used
     else if bytes_eq word (codes "race-free") then Some requirement.RaceFree
     else if bytes_eq word (codes "exit0") then Some requirement.Exit0
+    else if bytes_eq word (codes "secret") then Some requirement.Secret
     else None
 
 abbrev pub number_of_requirement : Requirement → ℕ
@@ -26,6 +27,7 @@ number_of_requirement requirement.Whole = 1
 number_of_requirement requirement.Used = 2
 number_of_requirement requirement.RaceFree = 3
 number_of_requirement requirement.Exit0 = 4
+number_of_requirement requirement.Secret = 5
 
 abbrev pub is_among : Requirement → List Requirement → Bool
 is_among r list = list_any (λ one. number_of_requirement one == number_of_requirement r) list

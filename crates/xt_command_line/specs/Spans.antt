@@ -1,7 +1,8 @@
--- Which words of memory are shown at the end of a run ('profile'). A text is the list of its bytes.
-use Rattle.std.specs.Prelude.{ℕ, ◌==◌, nat_le, List, [], ◌∷◌, length, Option, Some, None, Result}
-use Rattle.std.specs.Prelude.{Ok, Err, if◌then◌else◌}
-use Rattle.std.specs.List.{before_first, after_first, slice_split}
+-- Places of memory that words list, and which words of memory are shown at the end of a run
+-- ('profile'). A text is the list of its bytes.
+use Rattle.std.specs.Prelude.{ℕ, Bool, ◌==◌, nat_le, List, [], ◌∷◌, length, Option, Some, None}
+use Rattle.std.specs.Prelude.{Result, Ok, Err, if◌then◌else◌}
+use Rattle.std.specs.List.{before_first, after_first, list_all, slice_split}
 use Rattle.clap.specs.Words.{Text}
 use Rattle.xt_command_line.specs.Numbers.{number_of}
 use Rattle.xt_command_line.specs.TurnOrders.{comma}
@@ -12,10 +13,10 @@ use Rattle.xt_command_line.specs.declared.spans.Span.{Span}
 abbrev pub colon : ℕ
 colon = 58
 
--- so many words from an address on, at most 64
+-- so many from an address on
 abbrev pub span_by : Option ℕ → Option ℕ → Option Span
 span_by (Some addr) (Some count) =
-    if nat_le count 64 then Some (record { addr = addr; count = count }) else None
+    Some (record { addr = addr; count = count })
 span_by _ _ = None
 
 -- `ADDR:N`: the numbers before and after the first colon
@@ -42,9 +43,16 @@ at_most_four texts = if nat_le (length texts) 4 then all_spans texts else None
 abbrev pub spans_in : Text → Option (List Span)
 spans_in text = at_most_four (slice_split (λ b. b == comma) text)
 
+-- ---- the words that are shown
+
+-- at most 64 in each place
+abbrev pub are_small : List Span → Bool
+are_small spans = list_all (λ s. nat_le s.count 64) spans
+
 abbrev pub spans_or_refusal : Option (List Span) → Result (Option (List Span)) Refusal
 spans_or_refusal None = Err (refusal.Usage 4)
-spans_or_refusal (Some list) = Ok (Some list)
+spans_or_refusal (Some list) =
+    if are_small list then Ok (Some list) else Err (refusal.Usage 4)
 
 -- by the text of `--memory`
 abbrev pub shown_in : Option Text → Result (Option (List Span)) Refusal

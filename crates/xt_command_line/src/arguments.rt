@@ -1,14 +1,16 @@
-//! The words of `check`, `gen`, `replay` and `uses`.
+//! The words of `check`, `gen`, `replay`, `uses` and `secrets`.
 ghost use Rattle.std.specs.Prelude.{◌≡◌, IfOk, map, string_bytes, option_map};
 ghost use Rattle.xt_command_line.specs.MeaningAnswers.{Means, MeansAs};
-ghost use Rattle.xt_command_line.specs.Arguments.{IsVecbase, generator_number_of, judged_number, judged_vecbase, number_in, rigor_of, script_text_of, vecbase_of};
+ghost use Rattle.xt_command_line.specs.Arguments.{IsVecbase, generator_number_of, judged_number, judged_vecbase, needed_secrets, number_in, rigor_of, script_text_of, secret_options_of, vecbase_of};
 
 use crate::command::{Refusal, Rigor};
 use crate::numbers::number;
 use crate::option_commands::{
-    check_matches, generator_matches, is_true, replay_matches, text_of, uses_matches,
+    check_matches, generator_matches, is_true, replay_matches, secrets_matches, text_of,
+    uses_matches,
 };
 use crate::option_words::{DEFAULT_VECBASE, number_or};
+use crate::secrets::{SecretOptions, secrets_in};
 use std::alloc::Global;
 
 // A VECBASE, or the first rule of usage that it breaks.
@@ -82,4 +84,31 @@ pub fn uses_rigor(alloc: Global, words: &[String]) -> Result<Rigor, Refusal>
     } else {
         Ok(Rigor::Strict)
     }
+}
+
+// What is secret, which has to be said.
+fn needed_secrets(secrets: Option<SecretOptions>) -> Result<SecretOptions, Refusal>
+    ensures { result ≡ needed_secrets secrets }
+{
+    match secrets {
+        Some(secrets) => Ok(secrets),
+        None => Err(Refusal::Usage(10)),
+    }
+}
+
+/// What the words of `secrets` say to be secret, the first of which stands for the command.
+///
+/// The words are read as a simple command of `clap` with the options `--secret LIST` and `--public LIST`. `Usage` has the
+/// first rule that the words break: 3 they do not match, 10 `--secret` is not there, or `secrets_in` refuses a list.
+/// `Memory` says only that memory ran out.
+pub fn secret_options(alloc: Global, words: &[String]) -> Result<SecretOptions, Refusal>
+    ensures { Means result (secret_options_of (map string_bytes words.now)) }
+{
+    let matches = secrets_matches(alloc, words)?;
+    let secrets = secrets_in(
+        alloc,
+        text_of(&matches, "secret"),
+        text_of(&matches, "public"),
+    )?;
+    needed_secrets(secrets)
 }

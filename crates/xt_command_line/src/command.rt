@@ -4,6 +4,7 @@ ghost use Rattle.xt_command_line.specs.declared.command.Refusal.TheVariants.{Mem
 use crate::options::RunOptions;
 use crate::outcomes::OutcomeOptions;
 use crate::roots::Roots;
+use crate::secrets::SecretOptions;
 use std::alloc::AllocError;
 
 /// Which turns of a recorded run `trace` prints: those of some positions of the run's schedule, of which all
@@ -104,6 +105,8 @@ pub enum Command {
     Profile(ProfileOptions),
     /// `uses`: looks for the first use of something that is not known in a recorded run, with this rigor.
     Uses(Rigor),
+    /// `secrets`: looks for the first turn of a recorded run that lets one of these secret bytes decide something.
+    Secrets(SecretOptions),
     /// `outcomes`: looks for all that can come out of an image, with these options.
     Outcomes(OutcomeOptions),
     /// `gen`: runs the image that is made from this number.
@@ -116,7 +119,8 @@ pub enum Refusal {
     /// The number of the first rule of usage that the words break:
     /// 1 there is no word, 2 the command is unknown, 3 the further words do not match what the command takes, 4 to 8 a
     /// text of theirs is refused (`run_options`, `listing`, `check_vecbase`, `trace_turns` and `generator_number` say
-    /// which is which). Further numbers are those of callers.
+    /// which is which), 10 what they say of secrets is refused (`secret_options`, `run_options`). Further numbers are
+    /// those of callers.
     Usage(u8),
     /// Memory ran out while the words were read.
     Memory,
@@ -163,6 +167,8 @@ pub enum Name {
     Profile,
     /// `uses`
     Uses,
+    /// `secrets`
+    Secrets,
     /// `outcomes`
     Outcomes,
     /// `gen`

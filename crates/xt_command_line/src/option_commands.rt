@@ -1,14 +1,14 @@
 //! The simple commands of `clap` that read the words of `run`, `record`, `dis`, `check`, `gen`, `replay`, `trace`,
-//! `uses`, `profile` and `outcomes`.
+//! `uses`, `secrets`, `profile` and `outcomes`.
 ghost use Rattle.std.specs.Prelude.{◌≡◌, IfOk, map, string_bytes, option_map, fold};
 ghost use Rattle.clap.specs.Words.{all_of, app_of, first_of, found_of, new_app, rows_of, with_rule};
 ghost use Rattle.xt_command_line.specs.Simple.{Matches, rows_by};
-ghost use Rattle.xt_command_line.specs.Arguments.{check_app, gen_app, positional_rule, replay_app, uses_app};
+ghost use Rattle.xt_command_line.specs.Arguments.{check_app, gen_app, positional_rule, replay_app, secrets_app, uses_app};
 ghost use Rattle.xt_command_line.specs.Turns.{trace_app};
 ghost use Rattle.xt_command_line.specs.Depths.{profile_app};
 ghost use Rattle.xt_command_line.specs.Listings.{dis_app};
 ghost use Rattle.xt_command_line.specs.Outcomes.{outcomes_app, with_many};
-ghost use Rattle.xt_command_line.specs.Options.{flag_names, is_set, option_names, order_names, place_names, record_app, required_app, run_app, texts_of, with_flag, with_option};
+ghost use Rattle.xt_command_line.specs.Options.{flag_names, is_set, list_names, option_names, order_names, place_names, record_app, required_app, run_app, texts_of, with_flag, with_option};
 ghost use Rattle.xt_command_line.specs.Views.{texts_in};
 
 use crate::command::Refusal;
@@ -29,6 +29,8 @@ pub struct OptionTexts<'a> {
     pub order: Option<&'a str>,
     pub require: Option<&'a str>,
     pub memory: Option<&'a str>,
+    pub secret: Option<&'a str>,
+    pub public: Option<&'a str>,
     pub trace: bool,
     pub events: bool,
     pub race: bool,
@@ -104,6 +106,15 @@ fn with_requirements<'a>(alloc: Global, name: &'a str) -> Result<Command<'a>, Al
     with_one_option(alloc, with_options(alloc, name)?, "require")
 }
 
+// The command with the three lists that `run` alone has.
+fn with_lists<'a>(alloc: Global, command: Command<'a>) -> Result<Command<'a>, AllocError>
+    ensures { IfOk result (λ c. app_of c ≡ fold with_option (app_of command.entry) list_names) }
+{
+    let command = with_one_option(alloc, command, "memory")?;
+    let command = with_one_option(alloc, command, "secret")?;
+    with_one_option(alloc, command, "public")
+}
+
 // The command with the five flags that `run` alone has.
 fn with_flags<'a>(alloc: Global, command: Command<'a>) -> Result<Command<'a>, AllocError>
     ensures { IfOk result (λ c. app_of c ≡ fold with_flag (app_of command.entry) flag_names) }
@@ -120,8 +131,7 @@ fn run_command<'a>(alloc: Global) -> Result<Command<'a>, AllocError>
     ensures { IfOk result (λ c. app_of c ≡ run_app) }
 {
     let command = with_requirements(alloc, "run")?;
-    let command = with_one_option(alloc, command, "memory")?;
-    with_flags(alloc, command)
+    with_flags(alloc, with_lists(alloc, command)?)
 }
 
 /// What `clap` matches on the words of `run`.
@@ -243,6 +253,21 @@ pub fn uses_matches<'a>(alloc: Global, words: &'a [String]) -> Result<ArgMatches
     matches_by(uses_command(alloc)?, words)
 }
 
+// The command `secrets` with its options.
+fn secrets_command<'a>(alloc: Global) -> Result<Command<'a>, AllocError>
+    ensures { IfOk result (λ c. app_of c ≡ secrets_app) }
+{
+    let command = with_one_option(alloc, Command::new(alloc, "secrets"), "secret")?;
+    with_one_option(alloc, command, "public")
+}
+
+/// What `clap` matches on the words of `secrets`.
+pub fn secrets_matches<'a>(alloc: Global, words: &'a [String]) -> Result<ArgMatches<'a>, Refusal>
+    ensures { Matches result (rows_by secrets_app (map string_bytes words.now)) }
+{
+    matches_by(secrets_command(alloc)?, words)
+}
+
 // The command `profile` with its option and its flag.
 fn profile_command<'a>(alloc: Global) -> Result<Command<'a>, AllocError>
     ensures { IfOk result (λ c. app_of c ≡ profile_app) }
@@ -313,6 +338,8 @@ pub fn texts_from<'a>(matches: &ArgMatches<'a>) -> OptionTexts<'a>
         order: text_of(matches, "order"),
         require: text_of(matches, "require"),
         memory: text_of(matches, "memory"),
+        secret: text_of(matches, "secret"),
+        public: text_of(matches, "public"),
         trace: is_true(text_of(matches, "trace")),
         events: is_true(text_of(matches, "events")),
         race: is_true(text_of(matches, "race")),

@@ -2,14 +2,15 @@
 ghost use Rattle.std.specs.Prelude.{◌≡◌, IfOk, map, string_bytes, option_map};
 ghost use Rattle.xt_command_line.specs.MeaningAnswers.{Means};
 ghost use Rattle.xt_command_line.specs.Numbers.{number_of};
-ghost use Rattle.xt_command_line.specs.Options.{AreValid, stack_between, given_number_of, options_or_refusal, options_in, range_of, record_options_of, run_options_of, said_or, judged_texts};
+ghost use Rattle.xt_command_line.specs.Options.{AreValid, are_secrets_required, stack_between, given_number_of, options_or_refusal, options_in, options_with, range_of, record_options_of, run_options_of, said_or, judged_texts};
 ghost use Rattle.xt_command_line.specs.Views.{texts_in};
 
 use crate::command::Refusal;
 use crate::numbers::number;
 use crate::option_commands::{OptionTexts, record_matches, run_matches, texts_from};
 use crate::options::{RunOptions, within_limits};
-use crate::requirements::{Requirements, required_in};
+use crate::requirements::{Requirement, Requirements, is_among, required_in};
+use crate::secrets::{SecretOptions, secrets_in};
 use crate::spans::{Spans, shown_in};
 use crate::turn_orders::{TurnOrder, order_in};
 use std::alloc::Global;
@@ -107,7 +108,30 @@ fn options_from(
         uses: texts.uses,
         required,
         memory,
+        secrets: None,
     })
+}
+
+// The requirements ask for `secrets whole`.
+fn are_secrets_required(required: &Option<Requirements>) -> bool
+    ensures { result ≡ are_secrets_required required.now }
+{
+    match required {
+        Some(list) => is_among(Requirement::Secret, list.as_slice()),
+        None => false,
+    }
+}
+
+// The options with what is secret, or the rule of usage that they break.
+fn options_with(options: RunOptions, secrets: Option<SecretOptions>) -> Result<RunOptions, Refusal>
+    requires valid { AreValid options }
+    ensures means { result ≡ options_with options secrets }
+    ensures valid { IfOk result AreValid }
+{
+    if secrets.is_none() && are_secrets_required(&options.required) {
+        return Err(Refusal::Usage(10));
+    }
+    Ok(RunOptions { secrets, ..options })
 }
 
 /// The options that the texts say, or the first rule of usage that they break.
@@ -118,22 +142,25 @@ pub fn judged_texts(alloc: Global, texts: OptionTexts<'_>) -> Result<RunOptions,
     let order = order_in(alloc, texts.seed, texts.order)?;
     let required = required_in(alloc, texts.require)?;
     let memory = shown_in(alloc, texts.memory)?;
-    match options_from(texts, order, required, memory) {
-        Some(options) => within_limits(options),
-        None => Err(Refusal::Usage(4)),
-    }
+    let Some(options) = options_from(texts, order, required, memory) else {
+        return Err(Refusal::Usage(4));
+    };
+    let options = within_limits(options)?;
+    let secrets = secrets_in(alloc, texts.secret, texts.public)?;
+    options_with(options, secrets)
 }
 
 /// The options that the words of `run` say, the first of which stands for the command.
 ///
 /// The words are read as a simple command of `clap` with the options `--turns0 N`, `--turns1 N`, `--entry1 N`,
-/// `--vecbase N`, `--stack0 LO:HI`, `--stack1 LO:HI`, `--seed N`, `--order LIST`, `--require LIST` and `--memory LIST` and
-/// the flags `--events`, `--race`, `--profile`, `--uses` and `--trace`. N, LO and HI are decimal digits, or `0x` and one to
+/// `--vecbase N`, `--stack0 LO:HI`, `--stack1 LO:HI`, `--seed N`, `--order LIST`, `--require LIST`, `--memory LIST`,
+/// `--secret LIST` and `--public LIST` and the flags `--events`, `--race`, `--profile`, `--uses` and `--trace`. N, LO and HI are decimal digits, or `0x` and one to
 /// eight hexadecimal digits, below 2^32; the list of an order is `C*N,C*N,..` of at most 65,536 bytes, where C is a number
-/// of value 0 or 1; `required_in` and `shown_in` say what the other lists are. `Usage` has the first rule that the words
+/// of value 0 or 1; `required_in`, `shown_in` and `secrets_in` say what the other lists are. `Usage` has the first rule that the words
 /// break: 3 they do not match, or `--seed` and `--order` stand together, 4 a text is no number, range or list, 5 a number of turns is above 4,000,000, or an order asks for more than 8,000,000, 6 `entry1` is in no
 /// executable region, 7 `vecbase` is no multiple of 1024, 8 a stack is no range of at least 256 bytes in the internal
-/// data memory with ends at multiples of 16. `Memory` says only that memory ran out.
+/// data memory with ends at multiples of 16, 10 `secrets_in` refuses the lists of what is secret, or `secret` is required
+/// where nothing is secret. `Memory` says only that memory ran out.
 pub fn run_options(alloc: Global, words: &[String]) -> Result<RunOptions, Refusal>
     ensures means { Means result (run_options_of (map string_bytes words.now)) }
     ensures valid { IfOk result AreValid }
@@ -142,7 +169,7 @@ pub fn run_options(alloc: Global, words: &[String]) -> Result<RunOptions, Refusa
     judged_texts(alloc, texts_from(&matches))
 }
 
-/// The same of `record`, which has neither `--memory` nor the five flags.
+/// The same of `record`, which has neither `--memory`, `--secret` and `--public` nor the five flags.
 pub fn record_options(alloc: Global, words: &[String]) -> Result<RunOptions, Refusal>
     ensures means { Means result (record_options_of (map string_bytes words.now)) }
     ensures valid { IfOk result AreValid }

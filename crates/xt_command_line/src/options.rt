@@ -4,6 +4,7 @@ ghost use Rattle.xt_command_line.specs.Options.{AreValid, within_limits, is_entr
 
 use crate::command::Refusal;
 use crate::requirements::Requirements;
+use crate::secrets::SecretOptions;
 use crate::spans::Spans;
 use crate::turn_orders::{TurnOrder, is_short};
 use xt_map::can_execute_at;
@@ -43,6 +44,8 @@ pub struct RunOptions {
     pub required: Option<Requirements>,
     /// Which words of memory are shown as the run leaves them (`--memory`, of `run` alone), if any are.
     pub memory: Option<Spans>,
+    /// What is secret (`--secret` and `--public`, of `run` alone), if anything is.
+    pub secrets: Option<SecretOptions>,
 }
 
 impl RunOptions {

@@ -21,6 +21,8 @@ pub enum Requirement {
     RaceFree,
     /// `exit0`: each core that has turns ended by `break 1, 15` with 0 in a2.
     Exit0,
+    /// `secret`: the text of `secrets` says `secrets whole`.
+    Secret,
 }
 
 /// Requirements, of which none stands twice. Contracts see the list.
@@ -65,6 +67,7 @@ fn requirement_of(word: &str) -> Option<Requirement>
         "used" => Some(Requirement::Used),
         "race-free" => Some(Requirement::RaceFree),
         "exit0" => Some(Requirement::Exit0),
+        "secret" => Some(Requirement::Secret),
         _ => None,
     }
 }
@@ -79,11 +82,12 @@ fn number_of_requirement(requirement: Requirement) -> u8
         Requirement::Used => 2,
         Requirement::RaceFree => 3,
         Requirement::Exit0 => 4,
+        Requirement::Secret => 5,
     }
 }
 
-// The requirement stands in the list.
-fn is_among(requirement: Requirement, list: &[Requirement]) -> bool
+/// The requirement stands in the list.
+pub fn is_among(requirement: Requirement, list: &[Requirement]) -> bool
     ensures { result ≡ is_among requirement list.now }
 {
     list.iter().any(|one| number_of_requirement(*one) == number_of_requirement(requirement))
@@ -118,8 +122,8 @@ fn requirements_in(alloc: Global, text: &str) -> Result<Option<Requirements>, Al
 
 /// The requirements that the text of `--require` lists; none where there is no text.
 ///
-/// `Usage(4)` says that the text is no list of them: words `break`, `whole`, `used`, `race-free` and `exit0` with commas
-/// between them, one or more, of which none stands twice. `Memory` says only that memory ran out.
+/// `Usage(4)` says that the text is no list of them: words `break`, `whole`, `used`, `race-free`, `exit0` and `secret` with
+/// commas between them, one or more, of which none stands twice. `Memory` says only that memory ran out.
 pub fn required_in(alloc: Global, text: Option<&str>) -> Result<Option<Requirements>, Refusal>
     ensures { Means result (required_in (option_map (λ t. t.now) text.entry)) }
 {

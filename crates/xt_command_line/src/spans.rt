@@ -1,7 +1,7 @@
-//! Which words of memory are shown at the end of a run, as the words ask for it.
+//! Places of memory that the words list, and which words of memory are shown at the end of a run.
 ghost use Rattle.std.specs.Prelude.{◌≡◌, IfOk, map, option_map};
 ghost use Rattle.xt_command_line.specs.MeaningAnswers.{Means};
-ghost use Rattle.xt_command_line.specs.Spans.{all_spans, at_most_four, shown_in, span_by, span_of, spans_in};
+ghost use Rattle.xt_command_line.specs.Spans.{all_spans, are_small, at_most_four, shown_in, span_by, span_of, spans_in};
 
 use crate::command::Refusal;
 use crate::numbers::number;
@@ -9,16 +9,16 @@ use crate::turn_orders::parts_in;
 use std::alloc::{AllocError, Global};
 use std::marker::Model;
 
-/// So many words of memory from an address on.
+/// So many words or bytes of memory from an address on.
 #[derive(Clone, Copy)]
 pub struct Span {
     /// The address of the first.
     pub addr: u32,
-    /// How many, at most 64.
+    /// How many.
     pub count: u32,
 }
 
-/// Words of memory in several places. Contracts see the list.
+/// Several places of memory. Contracts see the list.
 #[derive(Drop)]
 pub struct Spans {
     items: Vec<Span>,
@@ -49,23 +49,17 @@ impl Spans {
     }
 }
 
-// So many words from an address on, where both numbers are there and they are at most 64.
+// So many from an address on, if both numbers are there.
 fn span_by(addr: Option<u32>, count: Option<u32>) -> Option<Span>
     ensures { result ≡ span_by addr count }
 {
     match (addr, count) {
-        (Some(addr), Some(count)) => {
-            if count <= 64 {
-                Some(Span { addr, count })
-            } else {
-                None
-            }
-        }
+        (Some(addr), Some(count)) => Some(Span { addr, count }),
         _ => None,
     }
 }
 
-// The words that `ADDR:N` says.
+// The place that `ADDR:N` says.
 fn span_of(text: &str) -> Option<Span>
     ensures { result ≡ span_of text.now }
 {
@@ -75,7 +69,7 @@ fn span_of(text: &str) -> Option<Span>
     }
 }
 
-// The words of these texts, each of which has to say some.
+// The places of these texts, each of which has to say one.
 fn all_spans(alloc: Global, parts: &[&str]) -> Result<Option<Spans>, AllocError>
     ensures { IfOk result (λ list. list ≡ all_spans (map (λ part. part.now) parts.now)) }
 {
@@ -89,7 +83,7 @@ fn all_spans(alloc: Global, parts: &[&str]) -> Result<Option<Spans>, AllocError>
     Ok(Some(Spans::new(spans)))
 }
 
-// The words that four texts at most say.
+// The places that four texts at most say.
 fn at_most_four(alloc: Global, parts: &[&str]) -> Result<Option<Spans>, AllocError>
     ensures { IfOk result (λ list. list ≡ at_most_four (map (λ part. part.now) parts.now)) }
 {
@@ -99,18 +93,26 @@ fn at_most_four(alloc: Global, parts: &[&str]) -> Result<Option<Spans>, AllocErr
     all_spans(alloc, parts)
 }
 
-// The words that a text lists.
-fn spans_in(alloc: Global, text: &str) -> Result<Option<Spans>, AllocError>
+/// The places that a text lists, or none if it is no list of them: one to four parts `ADDR:N` with commas between them,
+/// where both are numbers. The only error is running out of memory.
+pub fn spans_in(alloc: Global, text: &str) -> Result<Option<Spans>, AllocError>
     ensures { IfOk result (λ list. list ≡ spans_in text.now) }
 {
     let parts = parts_in(alloc, text)?;
     at_most_four(alloc, &parts)
 }
 
-/// The words of memory that the text of `--memory` lists; none where there is no text.
+// At most 64 words are in each place.
+fn are_small(spans: &[Span]) -> bool
+    ensures { result ≡ are_small spans.now }
+{
+    spans.iter().all(|span| span.count <= 64)
+}
+
+/// The words of memory that the text of `--memory` lists; none if there is no text.
 ///
-/// `Usage(4)` says that the text is no list of them: one to four parts `ADDR:N` with commas between them, each of which is
-/// N words from ADDR on. Both are numbers, and N is at most 64. `Memory` says only that memory ran out.
+/// `Usage(4)` says that the text is no list of places as `spans_in` reads it, or that one has more than 64 words. `Memory`
+/// says only that memory ran out.
 pub fn shown_in(alloc: Global, text: Option<&str>) -> Result<Option<Spans>, Refusal>
     ensures { Means result (shown_in (option_map (λ t. t.now) text.entry)) }
 {
@@ -118,7 +120,7 @@ pub fn shown_in(alloc: Global, text: Option<&str>) -> Result<Option<Spans>, Refu
         return Ok(None);
     };
     match spans_in(alloc, text)? {
-        Some(list) => Ok(Some(list)),
-        None => Err(Refusal::Usage(4)),
+        Some(list) if are_small(list.as_slice()) => Ok(Some(list)),
+        _ => Err(Refusal::Usage(4)),
     }
 }

@@ -1,9 +1,9 @@
 ghost use Rattle.std.specs.Prelude.{◌≡◌, IfOk, map, string_bytes};
 ghost use Rattle.xt_command_line.specs.MeaningAnswers.{Means};
-ghost use Rattle.xt_command_line.specs.Meaning.{HasValidOptions, MayWantMemory, check_meaning_of, dis_meaning_of, gen_meaning_of, meaning_of, command_named, outcomes_meaning_of, profile_meaning_of, record_meaning_of, run_meaning_of, trace_meaning_of, uses_meaning_of};
+ghost use Rattle.xt_command_line.specs.Meaning.{HasValidOptions, MayWantMemory, check_meaning_of, dis_meaning_of, gen_meaning_of, meaning_of, command_named, outcomes_meaning_of, profile_meaning_of, record_meaning_of, run_meaning_of, secrets_meaning_of, trace_meaning_of, uses_meaning_of};
 ghost use Rattle.xt_command_line.specs.declared.command.Refusal.TheVariants.{Memory};
 
-use crate::arguments::{check_vecbase, generator_number, uses_rigor};
+use crate::arguments::{check_vecbase, generator_number, secret_options, uses_rigor};
 use crate::command::{Command, Name, Refusal};
 use crate::depths::profile_options;
 use crate::listings::listing;
@@ -33,6 +33,7 @@ fn name_of(word: &str) -> Option<Name>
         "race" => Some(Name::Race),
         "profile" => Some(Name::Profile),
         "uses" => Some(Name::Uses),
+        "secrets" => Some(Name::Secrets),
         "outcomes" => Some(Name::Outcomes),
         "gen" => Some(Name::Generate),
         _ => None,
@@ -105,6 +106,17 @@ fn uses_meaning(alloc: Global, words: &[String]) -> Result<Command, Refusal>
     }
 }
 
+// The command `secrets` with what its words say to be secret.
+fn secrets_meaning(alloc: Global, words: &[String]) -> Result<Command, Refusal>
+    ensures means { Means result (secrets_meaning_of (map string_bytes words.now)) }
+    ensures valid { IfOk result HasValidOptions }
+{
+    match secret_options(alloc, words) {
+        Ok(secrets) => Ok(Command::Secrets(secrets)),
+        Err(refusal) => Err(refusal),
+    }
+}
+
 // The command `profile` with the options that its words say.
 fn profile_meaning(alloc: Global, words: &[String]) -> Result<Command, Refusal>
     ensures means { Means result (profile_meaning_of (map string_bytes words.now)) }
@@ -145,11 +157,12 @@ fn gen_meaning(alloc: Global, words: &[String]) -> Result<Command, Refusal>
 ///   them are `Usage(3)`, as far as `clap` does not take them: it takes one that is `--`.
 /// - `dis` has the listing that `listing` says, with the rules of usage 3, 4, 6 and 7.
 /// - `check` has the option that `check_vecbase` says, with the rules of usage 3, 4 and 7.
-/// - `run` has the options that `run_options` says, with the rules of usage 3 to 8, and `record` those of
+/// - `run` has the options that `run_options` says, with the rules of usage 3 to 8 and 10, and `record` those of
 ///   `record_options`, with the same.
 /// - `trace` has the turns that `trace_turns` says, with the rules of usage 3 and 4.
 /// - `profile` has the options that `profile_options` says, with the rules of usage 3 and 4.
 /// - `uses` has the rigor that `uses_rigor` says, with rule 3.
+/// - `secrets` has the options that `secret_options` says, with the rules of usage 3 and 10.
 /// - `outcomes` has the options that `outcomes_options` says, with the rules of usage 3 to 8.
 /// - `gen` has the number that `generator_number` says, with the same.
 /// - `replay` is `Replay`, whatever follows: `script_text` reads its words.
@@ -181,6 +194,7 @@ pub fn meaning(alloc: Global, words: &[String]) -> Result<Command, Refusal>
         Some(Name::Race) => without_options_meaning(alloc, "race", Command::Race, words),
         Some(Name::Profile) => profile_meaning(alloc, words),
         Some(Name::Uses) => uses_meaning(alloc, words),
+        Some(Name::Secrets) => secrets_meaning(alloc, words),
         Some(Name::Check) => check_meaning(alloc, words),
         Some(Name::Outcomes) => outcomes_meaning(alloc, words),
         Some(Name::Generate) => gen_meaning(alloc, words),

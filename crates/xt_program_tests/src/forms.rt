@@ -164,7 +164,7 @@ fn is_checked<R: Threads + Wait + Sync + AllocGlobal>(
 }
 
 // Whether the command of a case prints, over the recording of its run, what the case says; and `run` with the command's
-// flag, if there is one, prints that behind its report, whose last line is that of the case.
+// flag, if there is one, or with the lists of `secrets`, prints that after its report, whose last line is that of the case.
 fn is_analysed<R: Threads + Wait + Sync + AllocGlobal>(
     rt: &R,
     case: &str,
@@ -185,10 +185,13 @@ fn is_analysed<R: Threads + Wait + Sync + AllocGlobal>(
     if !words_of(case, "frames").is_empty() && !report.as_slice().ends_with(frames.as_bytes()) {
         return Some(false);
     }
-    if !matches!(analysis, "events" | "race" | "profile" | "uses") {
+    let line = if let Some(lists) = analysis.strip_prefix("secrets ") {
+        format!(in alloc; "run {options} {lists}").ok()?
+    } else if matches!(analysis, "events" | "race" | "profile" | "uses") {
+        format!(in alloc; "run {options} --{analysis}").ok()?
+    } else {
         return Some(true);
-    }
-    let line = format!(in alloc; "run {options} --{analysis}").ok()?;
+    };
     let whole = written(rt, line.as_str(), input)?;
     Some(whole.as_slice().strip_prefix(report.as_slice()) == Some(output.as_bytes()))
 }

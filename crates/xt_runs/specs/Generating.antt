@@ -23,6 +23,7 @@ gen_options = record {
   uses = false;
   required = None;
   memory = None;
+  secrets = None;
   order = order.Free;
 }
 

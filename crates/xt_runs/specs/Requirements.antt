@@ -17,9 +17,14 @@ use Rattle.xt_use_walk.specs.Verdicts.{IsUsesOf}
 use Rattle.xt_use_walk.specs.declared.walk.Uses.{Uses}
 use Rattle.xt_use_walk.specs.declared.walk.Uses.TheVariants as uses
 use Rattle.xt_use_report.specs.Held.{course_of, is_checked}
+use Rattle.xt_use_report.specs.SecretsText.{leak_line}
+use Rattle.xt_secret_walk.specs.Answers.{IsSecretsOf}
+use Rattle.xt_secret_walk.specs.declared.leak.Secrets.{Secrets}
+use Rattle.xt_secret_walk.specs.declared.leak.Secrets.TheVariants as secrets
 use Rattle.xt_command_line.specs.declared.options.RunOptions.{RunOptions}
 use Rattle.xt_command_line.specs.declared.requirements.Requirement.{Requirement}
 use Rattle.xt_command_line.specs.declared.requirements.Requirement.TheVariants as requirement
+use Rattle.xt_command_line.specs.declared.secrets.SecretOptions.{SecretOptions}
 use Rattle.xt_report.specs.Breaches.{breach_text}
 use Rattle.xt_report.specs.Verdicts.{frames_line}
 use Rattle.xt_runs.specs.Exits.{is_used_up, stop_line, unmet_exit}
@@ -57,21 +62,42 @@ unmet_race (Some r) =
     Some (concat
     (codes "race " ∷ decimal r.first ∷ codes " " ∷ decimal r.second ∷ codes "\n" ∷ []))
 
+-- ---- `secret`
+
+-- the first line of the text of `secrets`
+abbrev pub unmet_secret : Secrets → Option (List ℕ)
+unmet_secret (secrets.Whole n m) = None
+unmet_secret (secrets.Leaks first) = Some (leak_line first)
+
+-- the ranges of the words; if no word says so, nothing is secret
+abbrev pub secret_of : Option SecretOptions → List (ℕ × ℕ)
+secret_of None = []
+secret_of (Some s) = s.secret
+
+abbrev pub public_of : Option SecretOptions → List (ℕ × ℕ)
+public_of None = []
+public_of (Some s) = s.public
+
 -- ---- a list of requirements
 
 -- the line that says that the run does not meet a requirement, or none if it does
-abbrev pub IsUnmetBy : Requirement → Image → Run → Option (List ℕ) → Type 0
-IsUnmetBy requirement.Break image r line = line ≡ unmet_break r
-IsUnmetBy requirement.Whole image r line = line ≡ unmet_whole (whole_of image r).judged
-IsUnmetBy requirement.Used image r line =
+abbrev pub IsUnmetBy :
+    Option SecretOptions → Requirement → Image → Run → Option (List ℕ) → Type 0
+IsUnmetBy s requirement.Break image r line = line ≡ unmet_break r
+IsUnmetBy s requirement.Whole image r line = line ≡ unmet_whole (whole_of image r).judged
+IsUnmetBy s requirement.Used image r line =
     (found : Uses)
     × IsUsesOf Strict (is_checked image r) (course_of image r) found
     × (line ≡ unmet_used found)
-IsUnmetBy requirement.RaceFree image r line =
+IsUnmetBy s requirement.RaceFree image r line =
     (found : Option Race)
     × IsFirstRace (events_of image r) found
     × (line ≡ unmet_race found)
-IsUnmetBy requirement.Exit0 image r line = line ≡ unmet_exit image r
+IsUnmetBy s requirement.Exit0 image r line = line ≡ unmet_exit image r
+IsUnmetBy s requirement.Secret image r line =
+    (found : Secrets)
+    × IsSecretsOf image r (secret_of s) (public_of s) found
+    × (line ≡ unmet_secret found)
 
 -- this line, or else what follows
 abbrev pub IsThisOr :
@@ -80,17 +106,19 @@ IsThisOr (Some this) Follows line = line ≡ Some this
 IsThisOr None Follows line = Follows line
 
 -- the line of the first requirement that the run does not meet, or none
-abbrev pub IsUnmetIn : List Requirement → Image → Run → Option (List ℕ) → Type 0
-IsUnmetIn [] image r line = line ≡ None
-IsUnmetIn (one ∷ rest) image r line =
+abbrev pub IsUnmetIn :
+    Option SecretOptions → List Requirement → Image → Run → Option (List ℕ) → Type 0
+IsUnmetIn s [] image r line = line ≡ None
+IsUnmetIn s (one ∷ rest) image r line =
     (this : Option (List ℕ))
-    × IsUnmetBy one image r this
-    × IsThisOr this (IsUnmetIn rest image r) line
+    × IsUnmetBy s one image r this
+    × IsThisOr this (IsUnmetIn s rest image r) line
 
 -- the same of the words of a run, which need not require anything
-abbrev pub IsUnmetFor : Option (List Requirement) → Image → Run → Option (List ℕ) → Type 0
-IsUnmetFor None image r line = line ≡ None
-IsUnmetFor (Some list) image r line = IsUnmetIn list image r line
+abbrev pub IsUnmetFor :
+    Option SecretOptions → Option (List Requirement) → Image → Run → Option (List ℕ) → Type 0
+IsUnmetFor s None image r line = line ≡ None
+IsUnmetFor s (Some list) image r line = IsUnmetIn s list image r line
 
 abbrev pub IsUnmet : RunOptions → Image → Run → Option (List ℕ) → Type 0
-IsUnmet o image r line = IsUnmetFor o.required image r line
+IsUnmet o image r line = IsUnmetFor o.secrets o.required image r line

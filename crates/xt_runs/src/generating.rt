@@ -44,6 +44,7 @@ fn gen_options() -> RunOptions
         uses: false,
         required: None,
         memory: None,
+        secrets: None,
         order: TurnOrder::Free,
     }
 }

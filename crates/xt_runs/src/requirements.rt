@@ -1,21 +1,23 @@
 //! Which requirement a run does not meet.
 ghost use Rattle.std.specs.Prelude.{◌≡◌, IfOk, IfSome};
-ghost use Rattle.xt_runs.specs.Requirements.{IsUnmet, IsUnmetBy, IsUnmetIn, unmet_break, unmet_race, unmet_used, unmet_whole};
+ghost use Rattle.xt_runs.specs.Requirements.{IsUnmet, IsUnmetBy, IsUnmetIn, public_of, secret_of, unmet_break, unmet_race, unmet_secret, unmet_used, unmet_whole};
 ghost use Rattle.xt_runs.specs.Verdicts.{whole_of};
 ghost use Rattle.xt_core.specs.Runs.{IsRunOf};
 ghost use Rattle.xt_image.specs.ImageParts.{IsWellFormed};
+ghost use Rattle.xt_secret_walk.specs.Answers.{IsSecretsOf};
 
 use crate::exits::{is_used_up, stop_line, unmet_exit};
 use crate::verdicts::verdict_of;
 use std::alloc::{AllocError, Global};
-use xt_command_line::{Requirement, RunOptions};
+use xt_command_line::{Requirement, RunOptions, SecretOptions};
 use xt_frames::Judged;
 use xt_image::{Image, well_formed_is_placed};
 use xt_map::Text;
 use xt_race::{Race, first_race};
 use xt_report::{breach_text, frames_line};
+use xt_secret_walk::Secrets;
 use xt_trace::Run;
-use xt_use_report::uses_of;
+use xt_use_report::{leak_line, secrets_of, uses_of};
 use xt_use_walk::Uses;
 use xt_uses::Discipline;
 
@@ -67,6 +69,42 @@ fn unmet_used(alloc: Global, uses: &Uses) -> Result<Option<Text>, AllocError>
     }
 }
 
+// What is said of the secrets of a run, of which nothing is secret if no word says so.
+fn secrets_by(
+    alloc: Global,
+    secrets: &Option<SecretOptions>,
+    image: &Image,
+    run: &Run,
+) -> Result<Secrets, AllocError>
+    requires image { IsWellFormed image.now }
+    requires run { IsRunOf image.now run.now }
+    ensures { IfOk result (IsSecretsOf image.now run.now (secret_of secrets.now) (public_of secrets.now)) }
+{
+    match secrets {
+        Some(it) => secrets_of(
+            alloc,
+            image,
+            run,
+            it.secret.as_slice(),
+            it.public.as_slice(),
+        ),
+        None => secrets_of(alloc, image, run, &[], &[]),
+    }
+}
+
+// The line of a leak.
+fn unmet_secret(alloc: Global, secrets: &Secrets) -> Result<Option<Text>, AllocError>
+    ensures { IfOk result (λ line. line ≡ unmet_secret secrets.now) }
+{
+    match secrets {
+        Secrets::Whole(_, _) => Ok(None),
+        Secrets::Leaks(first) => {
+            let line = leak_line(alloc, first)?;
+            Ok(Some(line))
+        }
+    }
+}
+
 // The line of a race.
 fn unmet_race(alloc: Global, found: Option<Race>) -> Result<Option<Text>, AllocError>
     ensures { IfOk result (λ line. line ≡ unmet_race found) }
@@ -83,6 +121,7 @@ fn unmet_race(alloc: Global, found: Option<Race>) -> Result<Option<Text>, AllocE
 // The line that says that a run does not meet a requirement, if it does not.
 fn unmet_by(
     alloc: Global,
+    secrets: &Option<SecretOptions>,
     requirement: Requirement,
     image: &Image,
     run: &Run,
@@ -91,7 +130,7 @@ fn unmet_by(
     requires image { IsWellFormed image.now }
     requires run { IsRunOf image.now run.now }
     requires known { IfSome known (λ j. j ≡ (whole_of image.now run.now).judged) }
-    ensures { IfOk result (IsUnmetBy requirement image.now run.now) }
+    ensures { IfOk result (IsUnmetBy secrets.now requirement image.now run.now) }
 {
     match requirement {
         Requirement::Break => unmet_break(alloc, run),
@@ -109,12 +148,17 @@ fn unmet_by(
             unmet_race(alloc, found)
         }
         Requirement::Exit0 => unmet_exit(alloc, image, run),
+        Requirement::Secret => {
+            let found = secrets_by(alloc, secrets, image, run)?;
+            unmet_secret(alloc, &found)
+        }
     }
 }
 
 // The line of the first of these requirements that a run does not meet.
 fn unmet_in(
     alloc: Global,
+    secrets: &Option<SecretOptions>,
     list: &[Requirement],
     image: &Image,
     run: &Run,
@@ -123,10 +167,10 @@ fn unmet_in(
     requires image { IsWellFormed image.now }
     requires run { IsRunOf image.now run.now }
     requires known { IfSome known (λ j. j ≡ (whole_of image.now run.now).judged) }
-    ensures { IfOk result (IsUnmetIn list.now image.now run.now) }
+    ensures { IfOk result (IsUnmetIn secrets.now list.now image.now run.now) }
 {
     for requirement in list {
-        match unmet_by(alloc, *requirement, image, run, known)? {
+        match unmet_by(alloc, secrets, *requirement, image, run, known)? {
             Some(line) => return Ok(Some(line)),
             None => {}
         }
@@ -135,7 +179,7 @@ fn unmet_in(
 }
 
 /// The line of the first requirement of the words that a run of an image does not meet, in their order; none where it
-/// meets all. It is the line that says so in the report, or the first line of the text of `uses` or `race`; of a core
+/// meets all. It is the line that says so in the report, or the first line of the text of `uses`, `race` or `secrets`; of a core
 /// that ended without a BREAK it is `core C stop turns`, and of one that ended otherwise than `exit0` requires `core C
 /// stop break pc ADDR` or `core C a2 VALUE`. The only error is running out of memory.
 ///
@@ -154,7 +198,7 @@ pub fn unmet_of(
     ensures { IfOk result (IsUnmet options.now image.now run.now) }
 {
     match &options.required {
-        Some(list) => unmet_in(alloc, list.as_slice(), image, run, known),
+        Some(list) => unmet_in(alloc, &options.secrets, list.as_slice(), image, run, known),
         None => Ok(None),
     }
 }

@@ -7,5 +7,5 @@ mod texts;
 mod turns;
 
 pub use images::{check, list};
-pub use recordings::{counts, events, migrate, profile, race, trace, uses};
+pub use recordings::{counts, events, migrate, profile, race, secrets, trace, uses};
 pub use texts::{ELF_LIMIT, TEXT_LIMIT, converted_file, image_file, map_text};

@@ -8,11 +8,12 @@ ghost use Rattle.xt_status.specs.Inputs.{recording_refusal};
 ghost use Rattle.xt_status.specs.Writes.{Writes};
 ghost use Rattle.xt_tools.specs.Commands.{IsCountsTold, IsMade, IsRaceTold, filter_of, events_output, migrated_recording, profile_by, profile_output, trace_output, trace_text};
 ghost use Rattle.xt_tools.specs.Puts.{Puts};
+ghost use Rattle.xt_use_report.specs.SecretFindings.{AreSecretsTold};
 ghost use Rattle.xt_use_report.specs.UseFindings.{IsUsesTold};
 
 use crate::turns::write_lines;
 use std::alloc::{AllocError, Global};
-use xt_command_line::{ProfileOptions, Turns};
+use xt_command_line::{ProfileOptions, SecretOptions, Turns};
 use xt_counts::counts_text;
 use xt_debug::FrameLines;
 use xt_events::{Filter, TurnLines, events_text};
@@ -24,7 +25,7 @@ use xt_race::race_text;
 use xt_record::write_recording;
 use xt_status::{Status, recording_in, status_after};
 use xt_trace::Run;
-use xt_use_report::uses_text;
+use xt_use_report::{secrets_text, uses_text};
 use xt_uses::Discipline;
 
 /// The same recording in version 2, or the status of its first fault.
@@ -111,6 +112,16 @@ pub fn uses(alloc: Global, discipline: Discipline, input: &[u8]) -> Result<Text,
 {
     let (image, run) = recording_in(alloc, input)?;
     uses_text(alloc, discipline, &image, &run).map_err(|_| Status::Memory)
+}
+
+/// What is said of these secrets in a recorded run, or the status of the recording's first fault.
+pub fn secrets(alloc: Global, options: &SecretOptions, input: &[u8]) -> Result<Text, Status>
+    ensures ok { IfOk result (λ bytes. IsMade (recording_refusal input.now) (AreSecretsTold (image_in input.now) (run_in input.now) options.now.secret options.now.public bytes)) }
+    ensures refused { IfErr result (λ status. status ≢ Status.Memory → recording_refusal input.now ≡ Some status) }
+{
+    let (image, run) = recording_in(alloc, input)?;
+    let (secret, public) = (options.secret.as_slice(), options.public.as_slice());
+    secrets_text(alloc, &image, &run, secret, public).map_err(|_| Status::Memory)
 }
 
 // What is asked for of a turn.

@@ -17,7 +17,7 @@ use Rattle.xt_rows.specs.RowLaws.{IsWord}
 use Rattle.xt_exec.specs.State.{State}
 use Rattle.xt_core.specs.Runs.{IsRunOf, code_of, records_of}
 use Rattle.xt_frames.specs.declared.kinds.Breach.{Breach}
-use Rattle.xt_frames.specs.FirstBreach.{Course, IsFirstBreach, IsJudgedTurn, by_core, turns}
+use Rattle.xt_frames.specs.FirstBreach.{Course, IsFirstBreach, by_core, turns}
 use Rattle.xt_handlers.specs.declared.stretch.HandlerVerdict.{HandlerVerdict}
 use Rattle.xt_handlers.specs.declared.stretch.HandlerVerdict.TheVariants.{Yes, No}
 use Rattle.xt_handlers.specs.declared.stretch.Side.TheVariants.{Overflow, Underflow}
@@ -38,7 +38,7 @@ use Rattle.xt_uses.specs.declared.discipline.Discipline.TheVariants.{Lenient}
 use Rattle.xt_use_run.specs.UseRunLaws as laws
 use Rattle.xt_use_run.specs.UseRunLaws.{UsesAreSo, UsesOfRunsAreLater}
 use Rattle.xt_use_run.specs.FillingLaws.{RunsAreDecided}
-use Rattle.xt_use_report.specs.Held.{AreDecided, AreSo, AreUsesLater, AreUsesSo, IsLater, IsOnly, course_of, is_checked, found_in, opening}
+use Rattle.xt_use_report.specs.Held.{AreDecided, AreSo, AreUsesLater, AreUsesSo, IsLater, IsOnly, course_of, is_checked, opening}
 
 -- ---- a run of an image with what is kept of its records
 

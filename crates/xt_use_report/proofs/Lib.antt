@@ -1,3 +1,4 @@
 mod Served
 mod Courses
 mod Fetching
+mod Kept

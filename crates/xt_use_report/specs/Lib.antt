@@ -1,3 +1,5 @@
 pub mod UsesText
 pub mod Held
 pub mod UseFindings
+pub mod SecretsText
+pub mod SecretFindings

@@ -37,9 +37,12 @@ lack_text None = []
 lack_text (Some l) =
     codes "a" ++ (decimal l.number ++ (codes " " ++ (held_text l l.mark ++ codes "\n")))
 
+abbrev pub both_text : Option Lack × Option Lack → List ℕ
+both_text lacks = lack_text lacks.0 ++ lack_text lacks.1
+
 -- for Unset alone
 abbrev pub lacks_text : BreachKind → Option Lack × Option Lack → List ℕ
-lacks_text kind.Unset lacks = lack_text lacks.0 ++ lack_text lacks.1
+lacks_text kind.Unset lacks = both_text lacks
 lacks_text _ lacks = []
 
 -- ---- the text

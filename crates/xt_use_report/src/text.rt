@@ -4,7 +4,7 @@ ghost use Rattle.xt_map.specs.Memory.{constant_byte};
 ghost use Rattle.xt_fetch.specs.Fetching.{fetch_at};
 ghost use Rattle.xt_core.specs.Runs.{IsRunOf};
 ghost use Rattle.xt_image.specs.ImageParts.{IsWellFormed};
-ghost use Rattle.xt_use_report.specs.UsesText.{broken_text, held_text, insn_text, lack_text, lacks_text, listed_at, uses_text, whole_text};
+ghost use Rattle.xt_use_report.specs.UsesText.{both_text, broken_text, held_text, insn_text, lack_text, lacks_text, listed_at, uses_text, whole_text};
 ghost use Rattle.xt_use_report.specs.UseFindings.{IsUsesTold};
 
 use crate::report::uses_of;
@@ -32,8 +32,8 @@ fn push_listed(out: &mut String, code: &Constants, pc: u32) -> Result<(), AllocE
     Ok(())
 }
 
-// The line of the instruction that an address fetches, if any.
-fn insn_text(alloc: Global, code: &Constants, pc: u32) -> Result<String, AllocError>
+/// The line that a listing has of the instruction that an address fetches, if any. The only error is running out of memory.
+pub fn insn_text(alloc: Global, code: &Constants, pc: u32) -> Result<String, AllocError>
     ensures { IfOk result (λ text. string_bytes text ≡ insn_text (fetch_at (constant_byte code.now) pc) (constant_byte code.now) pc) }
 {
     let mut out = String::new(alloc);
@@ -71,6 +71,16 @@ fn push_lack(out: &mut String, lack: Option<Lack>) -> Result<(), AllocError>
     out.push_str("\n")
 }
 
+/// A line `aK VALUE known MASK` or `aK mark J` for each register. The only error is running out of memory.
+pub fn both_text(alloc: Global, lacks: (Option<Lack>, Option<Lack>)) -> Result<String, AllocError>
+    ensures { IfOk result (λ text. string_bytes text ≡ both_text lacks) }
+{
+    let mut out = String::new(alloc);
+    push_lack(&mut out, lacks.0)?;
+    push_lack(&mut out, lacks.1)?;
+    Ok(out)
+}
+
 // The lines of the registers that an Unset reads.
 fn lacks_text(
     alloc: Global,
@@ -79,12 +89,11 @@ fn lacks_text(
 ) -> Result<String, AllocError>
     ensures { IfOk result (λ text. string_bytes text ≡ lacks_text kind lacks) }
 {
-    let mut out = String::new(alloc);
     if kind == BreachKind::Unset {
-        push_lack(&mut out, lacks.0)?;
-        push_lack(&mut out, lacks.1)?;
+        both_text(alloc, lacks)
+    } else {
+        Ok(String::new(alloc))
     }
-    Ok(out)
 }
 
 // What is printed of a breach.

@@ -1,0 +1,17 @@
+/* Checks a PIN, looks at all digits, and gathers in what they differ. */
+unsigned char secret[6] = "25081", tried[6] = "25977";
+volatile int opened;
+
+static int same(const unsigned char *a, const unsigned char *b, int count)
+{
+    unsigned differ = 0;
+    for (int i = 0; i < count; i++)
+        differ |= a[i] ^ b[i];
+    return (differ - 1) >> 31;
+}
+
+int main(void)
+{
+    opened = same(secret, tried, sizeof secret);
+    return 0;
+}
