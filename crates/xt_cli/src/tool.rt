@@ -105,7 +105,9 @@ fn replay(alloc: Global, script: &Script, beyond: Beyond, input: &[u8]) -> Resul
     let Ok(mut debugger) = Debugger::make(alloc, &image, &run) else {
         return Err(Status::Memory);
     };
-    debugger.run(alloc, script, beyond).map_err(|_| Status::Memory)
+    debugger
+        .run(alloc, script, beyond)
+        .map_err(|_| Status::Memory)
 }
 
 // What a command writes for an input, or the status with which it refuses it. Its whole text is made.

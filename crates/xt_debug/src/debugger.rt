@@ -42,11 +42,7 @@ impl<'a> Debugger<'a> {
     ///
     /// Conditions: the run is the image's. The image's segments lie in one region each and share no byte, as those of
     /// every image that was read.
-    pub fn make(
-        alloc: Global,
-        image: &'a Image,
-        run: &'a Run,
-    ) -> Result<Debugger<'a>, AllocError>
+    pub fn make(alloc: Global, image: &'a Image, run: &'a Run) -> Result<Debugger<'a>, AllocError>
         requires run { IsRunOf image.now run.now }
         requires placed { IsPlaced image.now.segments }
         ensures { IfOk result (λ d. d ≡ record { image = image.now; run = run.now; position = 0 }) }

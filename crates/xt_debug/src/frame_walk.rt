@@ -198,12 +198,7 @@ impl<'a> FrameWalk<'a> {
     /// Appends the lines of the frames of a core, or the line that says that they are not known.
     ///
     /// Condition: the core is 0 or 1.
-    pub fn push_calls(
-        &self,
-        alloc: Global,
-        out: &mut Vec<u8>,
-        core: u8,
-    ) -> Result<(), AllocError>
+    pub fn push_calls(&self, alloc: Global, out: &mut Vec<u8>, core: u8) -> Result<(), AllocError>
         requires { core < 2 }
         ensures { OnOk result (out.new.items ≡ out.old.items ++ calls_text core (stack_end core self.now.run) (frame_at self.now.image self.now.run core self.now.position)) }
     {

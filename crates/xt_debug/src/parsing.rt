@@ -109,7 +109,11 @@ fn addresses_in(alloc: Global, word: &str) -> Result<Option<Addresses>, AllocErr
 
 // The core and the addresses that two words name.
 #[tactic(auto, unfolding(crate::specs::Grammar::breakpoint_of))]
-fn breakpoint_in(alloc: Global, core: &str, addresses: &str) -> Result<Option<Breakpoint>, AllocError>
+fn breakpoint_in(
+    alloc: Global,
+    core: &str,
+    addresses: &str,
+) -> Result<Option<Breakpoint>, AllocError>
     ensures value { IfOk result (λ found. found ≡ breakpoint_of core.now addresses.now) }
     ensures range { IfOk result (λ found. IfSome found (λ b. b.core < 2)) }
 {

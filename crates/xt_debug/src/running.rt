@@ -135,13 +135,7 @@ fn run_command<'a>(
         Command::Trace(count) => trace(alloc, replay, *count, out),
         Command::Regs(core) => {
             let state = replay.state();
-            push_regs(
-                alloc,
-                out,
-                *core,
-                state.step(*core),
-                state.regs(*core),
-            )?;
+            push_regs(alloc, out, *core, state.step(*core), state.regs(*core))?;
             Ok(false)
         }
         Command::Ring(core) => {

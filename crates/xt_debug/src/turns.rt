@@ -64,9 +64,8 @@ fn push_next(
     ensures text { OnOk result (out.new.items ≡ out.old.items ++ line_at everything replay.old.image replay.old.run replay.old.position) }
     ensures moved { replay.new ≡ replay_at replay.old (replay.old.position + 1) }
 {
-    match replay.next_core() {
-        Some(core) => {
-            let turn = replay.record(core);
+    match replay.next_turn() {
+        Some((core, turn)) => {
             let told = told(replay, core, turn, next);
             push_turn(alloc, out, code, &told, &turn)
         }

@@ -107,6 +107,29 @@ next_recorded image r p c h is =
     recorded_by image r p c h lt is
     (next_turn (processor (code_of image)) (whole image r) p (world_at image r p) (at_position image r h p (omega (arith, lt))) (subst L (schedule_is image r h) lt))
 
+-- ---- the core of a turn
+
+two_by : (image : Image) (r : Run) (p c : ℕ) → IsRunOf image r → p < length (schedule_in r) → slice_get (schedule_in r) p ≡ Some c
+    → Turn (processor (code_of image)) (whole image r) p (world_at image r p) → c < 2
+two_by image r p c h lt is (turn0 n) =
+    let here : get_or (schedule_in r) p 0 ≡ 0 = ap (λ (l : List ℕ). get_or l p 0) (schedule_is image r h) ∙ n.here in
+    omega (arith, same_core (schedule_in r) p c 0 lt is here)
+two_by image r p c h lt is (turn1 n) =
+    let here : get_or (schedule_in r) p 0 ≡ 1 = ap (λ (l : List ℕ). get_or l p 0) (schedule_is image r h) ∙ n.here in
+    omega (arith, same_core (schedule_in r) p c 1 lt is here)
+
+pub two_cores : (image : Image) (r : Run) (p c : ℕ) → IsRunOf image r → slice_get (schedule_in r) p ≡ Some c → c < 2
+two_cores image r p c h is =
+    let lt : p < length (schedule_in r) = inside_of (schedule_in r) p c is in
+    let L : List ℕ → Type 0 = λ l. p < length l in
+    two_by image r p c h lt is
+    (next_turn (processor (code_of image)) (whole image r) p (world_at image r p) (at_position image r h p (omega (arith, lt))) (subst L (schedule_is image r h) lt))
+
+pub past_all : (l : List ℕ) (p : ℕ) → slice_get l p ≡ None → length l ≤ p
+past_all [] p is = omega arith
+past_all (c ∷ l) zero is = absurd cc
+past_all (c ∷ l) (suc p) is = let le : length l ≤ p = past_all l p is in omega (arith, le)
+
 -- ---- in a replay
 
 -- the record of a turn of this core, whose access has this reply

@@ -10,5 +10,5 @@ mod turns;
 
 pub use ends::end_of;
 pub use memory::{push_mem, push_words};
-pub use replay::{APART, PastEnd, Replay};
+pub use replay::{PastEnd, Replay};
 pub use state::State;

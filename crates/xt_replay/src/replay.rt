@@ -11,8 +11,8 @@ use xt_image::Image;
 use xt_map::Constants;
 use xt_trace::{Run, StepRecord};
 
-/// How many steps lie between two positions of which a replay keeps a copy.
-pub const APART: u32 = 65536;
+// How many steps lie between two checkpoints.
+const APART: u32 = 65536;
 
 // How many steps lie at most between the near copy and a position to which a walk begins there.
 const NEAR: u32 = 1024;
@@ -92,7 +92,7 @@ impl<'a> Replay<'a> {
     ghost use Rattle.xt_core.specs.Positions.{schedule_in, world_at};
     ghost use Rattle.xt_core.specs.Runs.{IsRunOf, records_of};
     ghost use Rattle.xt_replay.specs.Places.{position_of, trace_in};
-    ghost use Rattle.xt_replay.specs.Shown.{replay_at, shown_at, step_in};
+    ghost use Rattle.xt_replay.specs.Shown.{IsNextTurn, replay_at, shown_at, step_in};
     ghost use Rattle.xt_replay.specs.Stands.{Comes};
 
     /// The run at position 0. All memory is taken here, also that of copies of what the run has at
@@ -351,10 +351,8 @@ impl<'a> Replay<'a> {
         self.pair.used
     }
 
-    /// The record of the next turn, which is this core's.
-    ///
-    /// Conditions: the core is 0 or 1, and the next step is this core's.
-    pub fn record(&self, core: u8) -> StepRecord
+    // The record of the next turn, which is this core's.
+    fn record(&self, core: u8) -> StepRecord
         requires core { core < 2 }
         requires next { slice_get (schedule_in self.now.run) self.now.position ≡ Some core }
         ensures { slice_get (records_of core self.now.image self.now.run).records (step_in core (shown_at self.now.image self.now.run self.now.position)) ≡ Some result }
@@ -364,6 +362,17 @@ impl<'a> Replay<'a> {
             record_from(self.pair.core0.regs(), &self.code, reply)
         } else {
             record_from(self.pair.core1.regs(), &self.code, reply)
+        }
+    }
+
+    /// The core of the next turn, 0 or 1, and the turn's record. None comes exactly at the end of the schedule.
+    pub fn next_turn(&self) -> Option<(u8, StepRecord)>
+        ensures { IsNextTurn result self.now }
+    {
+        let _ = &self.image;
+        match self.next_core() {
+            Some(core) => Some((core, self.record(core))),
+            None => None,
         }
     }
 

@@ -54,7 +54,12 @@ fn printed(
 
 // The answer to a line. The only error is running out of memory.
 #[tactic(auto, unfolding(crate::specs::Session::answer))]
-fn answer(alloc: Global, debugger: &mut Debugger, beyond: Beyond, line: &[u8]) -> Result<Text, Refused>
+fn answer(
+    alloc: Global,
+    debugger: &mut Debugger,
+    beyond: Beyond,
+    line: &[u8],
+) -> Result<Text, Refused>
     ensures text { IfOk result (λ text. text ≡ answer beyond debugger.old.image debugger.old.run line.now) }
     ensures run { IfOk result (λ text. (debugger.new.image ≡ debugger.old.image) × (debugger.new.run ≡ debugger.old.run)) }
     ensures memory { IfErr result (λ e. e ≡ Refused.Memory) }

@@ -1,5 +1,6 @@
 use Rattle.std.proofs.Common.{◌≡◌, ◌<◌, ◌≤◌, ◌+◌, ◌++◌, false, true, length, take, get_or, refl, sym, ap, ◌∙◌, arith}
 use Rattle.xt_replay.specs.Shown.{ReplayState, replay_at}
+use Rattle.xt_debug.specs.Runs.{IsOf}
 use Rattle.xt_command_line.specs.declared.beyond.Beyond.TheVariants.{GoesOn}
 use Rattle.xt_debug.specs.declared.script.Command.TheVariants.{Go}
 use Rattle.xt_debug.specs.Scripts.{Outcome, after, outcome, script_outcome, stops}
@@ -21,10 +22,10 @@ loop-command-preserved c =
     let is : done ≡ outcome r.image r.run (get_or cs i (Go 0 0)) o.position
     = ap (λ (s : ReplayState). outcome s.image s.run command s.position) same ∙ ap (λ xs. outcome r.image r.run (get_or xs i (Go 0 0)) o.position) c.as_slice-command-items.ensures in
     let on : stops c.args.beyond (outcome r.image r.run (get_or cs i (Go 0 0)) o.position) ≡ false
-    = sym (ap (stops c.args.beyond) is) ∙ sym (c.stops.ensures done c.in_ok-led_beyond.ensures.2) ∙ c.if-stops.false in
+    = sym (ap (stops c.args.beyond) is) ∙ sym (c.stops.ensures done c.in_ok-led_beyond.ensures.ran.2) ∙ c.if-stops.false in
     record {
-      text = c.in_ok-led_beyond.ensures.0 ∙ ap (λ t. t ++ done.text) c.loop-command.invariant.text ∙ ap (λ (u : Outcome). o.text ++ u.text) is ∙ sym (ap (λ (u : Outcome). u.text) whole);
-      replay = c.in_ok-led_beyond.ensures.1 ∙ ap (λ (s : ReplayState). replay_at s done.position) same ∙ ap (λ (u : Outcome). replay_at r u.position) is ∙ sym (ap (λ (u : Outcome). replay_at r u.position) whole);
+      text = c.in_ok-led_beyond.ensures.ran.0 ∙ ap (λ t. t ++ done.text) c.loop-command.invariant.text ∙ ap (λ (u : Outcome). o.text ++ u.text) is ∙ sym (ap (λ (u : Outcome). u.text) whole);
+      replay = c.in_ok-led_beyond.ensures.ran.1 ∙ ap (λ (s : ReplayState). replay_at s done.position) same ∙ ap (λ (u : Outcome). replay_at r u.position) is ∙ sym (ap (λ (u : Outcome). replay_at r u.position) whole);
       whole = c.loop-command.invariant.whole ∙ goes_on c.args.beyond r.image r.run cs i r.position (Go 0 0) below on;
     }
 
@@ -43,11 +44,11 @@ returns-then-stops c =
     let is : done ≡ there
     = ap (λ (s : ReplayState). outcome s.image s.run command s.position) same ∙ ap (λ xs. outcome r.image r.run (get_or xs i (Go 0 0)) o.position) c.as_slice-command-items.ensures in
     let on : stops c.args.beyond there ≡ true
-    = sym (ap (stops c.args.beyond) is) ∙ sym (c.stops.ensures done c.in_ok-led_beyond.ensures.2) ∙ c.if-stops.true in
+    = sym (ap (stops c.args.beyond) is) ∙ sym (c.stops.ensures done c.in_ok-led_beyond.ensures.ran.2) ∙ c.if-stops.true in
     let all : script_outcome c.args.beyond r.image r.run cs r.position ≡ after o there
     = c.loop-command.invariant.whole ∙ ends_here c.args.beyond r.image r.run cs i r.position (Go 0 0) below on in (
-      c.new.ensures ∙ c.in_ok-led_beyond.ensures.0 ∙ ap (λ t. t ++ done.text) c.loop-command.invariant.text ∙ ap (λ (u : Outcome). o.text ++ u.text) is ∙ sym (ap (λ (u : Outcome). u.text) all),
-      c.in_ok-led_beyond.ensures.1 ∙ ap (λ (s : ReplayState). replay_at s done.position) same ∙ ap (λ (u : Outcome). replay_at r u.position) is ∙ sym (ap (λ (u : Outcome). replay_at r u.position) all),
+      c.new.ensures ∙ c.in_ok-led_beyond.ensures.ran.0 ∙ ap (λ t. t ++ done.text) c.loop-command.invariant.text ∙ ap (λ (u : Outcome). o.text ++ u.text) is ∙ sym (ap (λ (u : Outcome). u.text) all),
+      c.in_ok-led_beyond.ensures.ran.1 ∙ ap (λ (s : ReplayState). replay_at s done.position) same ∙ ap (λ (u : Outcome). replay_at r u.position) is ∙ sym (ap (λ (u : Outcome). replay_at r u.position) all),
       led_beyond c.args.beyond there on ∙ sym (ap (λ (u : Outcome). u.beyond) all),
     )
 
