@@ -176,6 +176,16 @@ fn after(found: Option<u32>) -> Option<u32>
     }
 }
 
+// Moves directly after the first step from here on at which the target is found.
+fn find_store(replay: &mut Replay, target: &Target) -> bool
+    requires { HasCore target.now }
+    ensures { Arrives (option_map suc (first_step (hits replay.old.image replay.old.run target.now) replay.old.run replay.old.position)) replay.old result replay.new }
+{
+    let start = replay.position();
+    let found = first(replay, target);
+    arrive(replay, after(found), start)
+}
+
 /// Moves to where a search on arrives: at the first later position at which a core is next as is asked for, or directly
 /// after the first step from here on that stores as is asked for. If there is none, nothing changes.
 ///
@@ -191,10 +201,7 @@ pub fn find_ahead(replay: &mut Replay, target: &Target) -> bool
             let found = first(replay, target);
             arrive(replay, found, start)
         }
-        Target::Store(_) => {
-            let found = first(replay, target);
-            arrive(replay, after(found), start)
-        }
+        Target::Store(_) => find_store(replay, target),
     }
 }
 

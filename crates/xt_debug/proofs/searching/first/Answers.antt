@@ -7,7 +7,7 @@ use Rattle.xt_debug.proofs.searching.first.Goals as goal
 pub loop-position-init : goal.loop-position-init
 loop-position-init c =
     let r = c.args.replay.now in
-    let start = c.position-start.ensures.position in
+    let start = c.position-position.ensures.position in
     record {
       rest = ap (first_step (hits r.image r.run c.args.target.now) r.run) start;
       replay = ap (replay_at r) (sym start);

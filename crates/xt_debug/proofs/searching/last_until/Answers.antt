@@ -7,7 +7,7 @@ use Rattle.xt_debug.proofs.searching.last_until.Goals as goal
 pub loop-position-init : goal.loop-position-init
 loop-position-init c =
     let r = c.args.replay.now in
-    let start = c.position-start.ensures.position in
+    let start = c.position-position.ensures.position in
     record {
       rest = ap (last_before (hits r.image r.run c.args.target.now)) (sym start);
       range = tt;
@@ -23,7 +23,7 @@ loop-position-preserved c =
     let next : p + 1 ≡ suc p = omega arith in
     let passes : c.step_hits-is_found.result ≡ test p = c.step_hits-is_found.ensures.hits ∙ ap (λ (s : ReplayState). hits s.image s.run c.args.target.now s.position) same in
     record {
-      rest = found_below test c.step_hits-is_found.result p (p + 1) c.loop-position.found c.newer.result (last_before test r.position) next passes c.newer.ensures c.loop-position.invariant.rest;
-      range = below_more c.step_hits-is_found.result p (p + 1) c.loop-position.found c.newer.result next c.newer.ensures c.loop-position.invariant.range;
+      rest = found_below test c.step_hits-is_found.result p (p + 1) c.loop-position.found c.newer-found.result (last_before test r.position) next passes c.newer-found.ensures c.loop-position.invariant.rest;
+      range = below_more c.step_hits-is_found.result p (p + 1) c.loop-position.found c.newer-found.result next c.newer-found.ensures c.loop-position.invariant.range;
       replay = c.step_hits-is_found.ensures.moved ∙ ap (λ (s : ReplayState). replay_at s (s.position + 1)) same;
     }

@@ -5,8 +5,8 @@ use Rattle.xt_debug.specs.Searches.{end_of, hits}
 use Rattle.xt_debug.specs.declared.targets.Target.{Target}
 use Rattle.xt_debug.proofs.searching.step_hits.Goals as goal
 
-pub is_next-requires : goal.is_next-requires
-is_next-requires c = subst HasCore c.in-Execution.is c.requires.core
+pub is_next-found-requires : goal.is_next-found-requires
+is_next-found-requires c = subst HasCore c.in-Execution.is c.requires.core
 
 pub returns-in-Store-clause-hits : goal.returns-in-Store-clause-hits
 returns-in-Store-clause-hits c =

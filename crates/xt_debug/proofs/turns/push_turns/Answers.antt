@@ -8,7 +8,7 @@ use Rattle.xt_debug.proofs.turns.push_turns.Goals as goal
 pub loop-position-init : goal.loop-position-init
 loop-position-init c =
     let r = c.args.replay.now in
-    let start = c.position-start.ensures.position in
+    let start = c.position-position.ensures.position in
     record {
       text = ap (λ p. c.args.out.now.items ++ text_from r.image r.run p (c.args.to - p)) start;
       replay = ap (replay_at r) (sym start);
@@ -30,3 +30,12 @@ loop-position-preserved c =
           ∙ c.loop-position.invariant.text;
       replay = c.in_ok-push_next.ensures.moved ∙ ap (λ (s : ReplayState). replay_at s (s.position + 1)) same;
     }
+
+pub returns-clause-text : goal.returns-clause-text
+returns-clause-text c =
+    let r = c.args.replay.now in
+    let p = c.loop-position.position in
+    let none : c.args.to - p ≡ 0 = omega (arith, c.loop-position-test.false) in
+    sym (no_line r.image r.run p (c.args.to - p) c.loop-position.out.items none)
+    ∙ c.loop-position.invariant.text
+    ∙ ap (λ t. c.args.out.now.items ++ t) (all_lines r.image r.run r.position c.args.to c.requires.from c.requires.within)

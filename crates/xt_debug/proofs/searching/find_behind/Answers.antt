@@ -1,2 +1,0 @@
-use Rattle.std.proofs.Common.{◌≡◌, ◌≤◌, ◌<◌, sym, ap, ◌∙◌, arith}
-use Rattle.xt_debug.proofs.searching.find_behind.Goals as goal
