@@ -1,7 +1,7 @@
-use Rattle.std.proofs.Common.{◌≡◌, suc, ◌+◌, ◌-◌, Bool, true, false, sym, ap, ◌∙◌, arith}
+use Rattle.std.proofs.Common.{◌≡◌, suc, ◌+◌, ◌-◌, false, sym, ap, ◌∙◌, arith}
 use Rattle.xt_replay.specs.Shown.{ReplayState, replay_at}
 use Rattle.xt_debug.specs.Searches.{end_of, first_step, hits}
-use Rattle.xt_debug.proofs.Found.{found_here, none_left, not_here}
+use Rattle.xt_debug.proofs.Found.{not_here}
 use Rattle.xt_debug.proofs.searching.first.Goals as goal
 
 pub loop-position-init : goal.loop-position-init

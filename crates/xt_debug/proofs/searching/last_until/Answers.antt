@@ -1,6 +1,6 @@
-use Rattle.std.proofs.Common.{◌≡◌, ℕ, suc, ◌+◌, ◌-◌, ◌<◌, Option, Bool, true, false, sym, ap, ◌∙◌, arith}
+use Rattle.std.proofs.Common.{◌≡◌, suc, ◌+◌, sym, ap, ◌∙◌, arith}
 use Rattle.xt_replay.specs.Shown.{ReplayState, replay_at}
-use Rattle.xt_debug.specs.Searches.{end_of, hits, last_before}
+use Rattle.xt_debug.specs.Searches.{hits, last_before}
 use Rattle.xt_debug.proofs.Found.{below_more, found_below}
 use Rattle.xt_debug.proofs.searching.last_until.Goals as goal
 

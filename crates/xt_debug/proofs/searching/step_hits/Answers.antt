@@ -1,7 +1,7 @@
-use Rattle.std.proofs.Common.{◌≡◌, ◌≤◌, sym, ap, ◌∙◌, subst, arith}
+use Rattle.std.proofs.Common.{sym, ap, ◌∙◌, subst}
 use Rattle.xt_replay.specs.Shown.{replay_at}
 use Rattle.xt_debug.specs.Grammar.{HasCore}
-use Rattle.xt_debug.specs.Searches.{end_of, hits}
+use Rattle.xt_debug.specs.Searches.{hits}
 use Rattle.xt_debug.specs.declared.targets.Target.{Target}
 use Rattle.xt_debug.proofs.searching.step_hits.Goals as goal
 

@@ -1,4 +1,4 @@
-use Rattle.std.proofs.Common.{◌≡◌, suc, ◌+◌, ◌-◌, ◌++◌, length, sym, ap, ◌∙◌, arith, append_assoc}
+use Rattle.std.proofs.Common.{◌≡◌, suc, ◌+◌, ◌-◌, ◌++◌, sym, ap, ◌∙◌, arith, append_assoc}
 use Rattle.xt_replay.specs.Shown.{ReplayState, replay_at}
 use Rattle.xt_events.specs.Filters.{everything}
 use Rattle.xt_events.specs.Lines.{line_at}

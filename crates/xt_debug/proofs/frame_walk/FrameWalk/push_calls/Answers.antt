@@ -1,4 +1,4 @@
-use Rattle.std.proofs.Common.{◌≡◌, ℕ, Option, Some, None, ◌++◌, ◌∙◌, sym, subst}
+use Rattle.std.proofs.Common.{◌≡◌, ℕ, Option, Some, ◌++◌, ◌∙◌, sym, subst}
 use Rattle.std.specs.Prelude.{OnOk}
 use Rattle.xt_replay.specs.Shown.{ReplayState}
 use Rattle.xt_frames.specs.Frames.{FrameState}
