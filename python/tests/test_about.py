@@ -24,7 +24,7 @@ class About(unittest.TestCase):
         self.assertEqual(options["--words", None]["commands"], [])
 
     def test_script(self) -> None:
-        names = "go end next back break watch trace regs ring special mem words frames calls".split()
+        names = "go end next back break watch prior last trace regs ring special mem words frames calls events".split()
         self.assertEqual([it["name"] for it in self.help["script"]], names)
 
     def test_codes(self) -> None:

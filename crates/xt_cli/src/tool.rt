@@ -12,11 +12,10 @@ use std::alloc::Global;
 use xt_command_line::{
     Beyond, Listing, OutcomeOptions, ProfileOptions, Refusal, SecretOptions, Turns,
 };
-use xt_debug::{Printed, Script, run_script};
+use xt_debug::{Debugger, Printed, Script};
 use xt_image::well_formed_is_placed;
 use xt_io::{ReadError, Sink, Source, read_to_limit};
 use xt_map::Text;
-use xt_replay::Replay;
 use xt_session::session;
 use xt_status::{IMAGE_LIMIT, RECORDING_LIMIT, Status, recording_in, status_after, write_text};
 use xt_tools::{
@@ -109,10 +108,12 @@ fn replay(alloc: Global, script: &Script, beyond: Beyond, input: &[u8]) -> Resul
 {
     let (image, run) = recording_in(alloc, input)?;
     well_formed_is_placed();
-    let Ok(mut replay) = Replay::make(alloc, &image, &run) else {
+    let Ok(mut debugger) = Debugger::make(alloc, &image, &run) else {
         return Err(Status::Memory);
     };
-    run_script(alloc, &mut replay, script, beyond).map_err(|_| Status::Memory)
+    debugger
+        .run(alloc, script, beyond)
+        .map_err(|_| Status::Memory)
 }
 
 // What a command writes for an input, or the status with which it refuses it. Its whole text is made.

@@ -9,3 +9,5 @@ pub mod Lines
 pub mod Knowing
 pub mod FrameWalking
 pub mod FrameNoting
+pub mod Turning
+pub mod Kept

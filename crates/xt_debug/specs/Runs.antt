@@ -1,6 +1,8 @@
 -- What running commands leaves ('profile').
 use Rattle.std.specs.Prelude.{◌≡◌, ℕ, Bool, true, false, Option, Some, None, List, ◌++◌, Result, Ok}
 use Rattle.std.specs.Prelude.{Err, take}
+use Rattle.xt_trace.specs.declared.run.Run.{Run}
+use Rattle.xt_image.specs.declared.image.Image.{Image}
 use Rattle.xt_replay.specs.Shown.{ReplayState, replay_at}
 use Rattle.xt_command_line.specs.declared.beyond.Beyond.{Beyond}
 use Rattle.xt_command_line.specs.declared.beyond.Beyond.TheVariants.{GoesOn}
@@ -13,6 +15,16 @@ abbrev pub Arrives : Option ℕ → ReplayState → Bool → ReplayState → Typ
 Arrives (Some q) old true new = new ≡ replay_at old q
 Arrives None old false new = new ≡ old
 Arrives _ old _ new = ⊥
+
+-- a walk that is kept, if any is, is one of this run
+abbrev pub IsOf : Option ReplayState → Image → Run → Type 0
+IsOf None image r = Unit {0}
+IsOf (Some w) image r = (w.image ≡ image) × (w.run ≡ r)
+
+-- what was found, or else something else
+abbrev pub or_else : Option ℕ → Option ℕ → Option ℕ
+or_else None other = other
+or_else (Some q) other = Some q
 
 -- a command was run, and its text appended; the answer is whether it led beyond the run. Where memory
 -- ran out, the position is as before.

@@ -5,6 +5,7 @@ use Rattle.std.specs.Prelude.{◌++◌}
 use Rattle.xt_trace.specs.declared.run.Run.{Run}
 use Rattle.xt_image.specs.declared.image.Image.{Image}
 use Rattle.xt_replay.specs.Shown.{Shown, byte_in, shown_at, state_in, step_in}
+use Rattle.xt_events.specs.Events.{events_text}
 use Rattle.xt_events.specs.Lines.{turns_text}
 use Rattle.xt_command_line.specs.declared.beyond.Beyond.{Beyond}
 use Rattle.xt_command_line.specs.declared.beyond.Beyond.TheVariants as beyond
@@ -15,8 +16,7 @@ use Rattle.xt_debug.specs.Depths.{depth_at, frame_at}
 use Rattle.xt_debug.specs.Printed.{frames_text, none_found, past_end, regs_text, ring_text}
 use Rattle.xt_debug.specs.Printed.{special_text}
 use Rattle.xt_replay.specs.Printed.{mem_text, words_text}
-use Rattle.xt_debug.specs.Searches.{break_position, end_of, step_position, watch_position}
-use Rattle.xt_debug.specs.Searches.{within}
+use Rattle.xt_debug.specs.Searches.{end_of, next_position, prior_position, step_position, within}
 
 -- the text that was printed, the position at which the replay stands then, and whether a command led
 -- beyond the run
@@ -57,8 +57,8 @@ outcome image r (command.Go core step) p = moves (step_position r core step) p
 outcome image r command.End p = moves (Some (end_of r)) p
 outcome image r (command.Next n) p = moves (within r (p + n)) p
 outcome image r (command.Back n) p = moves (position_back r p n) p
-outcome image r (command.Break core addr) p = finds (break_position image r core addr p) p
-outcome image r (command.Watch addr) p = finds (watch_position image r addr p) p
+outcome image r (command.Ahead t) p = finds (next_position image r t p) p
+outcome image r (command.Behind t) p = finds (prior_position image r t p) p
 outcome image r (command.Trace n) p = shows (within r (p + n)) (turns_text image r p (p + n)) p
 outcome image r (command.Regs core) p = prints (regs_shown core (shown_at image r p)) p
 outcome image r (command.Ring core) p =
@@ -72,6 +72,7 @@ outcome image r (command.Words addr n) p =
 outcome image r (command.Frames core) p = prints (frames_text core (depth_at image r core p)) p
 outcome image r (command.Calls core) p =
     prints (calls_text core (stack_end core r) (frame_at image r core p)) p
+outcome image r command.Events p = prints (events_text image r) p
 
 -- a command, and then what comes after it
 abbrev pub after : Outcome → Outcome → Outcome

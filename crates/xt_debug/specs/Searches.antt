@@ -11,6 +11,9 @@ use Rattle.xt_map.specs.Regions.{is_memory, region_of}
 use Rattle.xt_trace.specs.declared.run.Run.{Run}
 use Rattle.xt_image.specs.declared.image.Image.{Image}
 use Rattle.xt_core.specs.Positions.{schedule_in, world_at}
+use Rattle.xt_debug.specs.declared.targets.Breakpoint.{Breakpoint}
+use Rattle.xt_debug.specs.declared.targets.Target.{Target}
+use Rattle.xt_debug.specs.declared.targets.Target.TheVariants as target
 use Rattle.xt_replay.specs.Places.{position_of, trace_in}
 use Rattle.xt_replay.specs.Shown.{shown_at, state_in}
 
@@ -18,6 +21,11 @@ use Rattle.xt_replay.specs.Shown.{shown_at, state_in}
 abbrev pub first_from : (ℕ → Bool) → ℕ → ℕ → Option ℕ
 first_from test p zero = None
 first_from test p (suc n) = if test p then Some p else first_from test (suc p) n
+
+-- the last number below this one that passes the test
+abbrev pub last_before : (ℕ → Bool) → ℕ → Option ℕ
+last_before test zero = None
+last_before test (suc n) = if test n then Some n else last_before test n
 
 -- the position after a run's last step
 abbrev pub end_of : Run → ℕ
@@ -27,6 +35,10 @@ end_of r = length (schedule_in r)
 abbrev pub within : Run → ℕ → Option ℕ
 within r p = if nat_le p (end_of r) then Some p else None
 
+-- the first step from a position on that passes the test
+abbrev pub first_step : (ℕ → Bool) → Run → ℕ → Option ℕ
+first_step test r p = first_from test p (end_of r - p)
+
 -- ---- `go`
 
 -- directly before a core's step of this number, where its trace is that long
@@ -34,23 +46,21 @@ abbrev pub step_position : Run → ℕ → ℕ → Option ℕ
 step_position r core step =
     if nat_le step (trace_in core r).count then Some (position_of core step r) else None
 
--- ---- `break`
+-- ---- `break` and `prior`
 
 abbrev pub is_core : ℕ → Option ℕ → Bool
 is_core core None = false
 is_core core (Some c) = c == core
 
--- the next step is this core's, and the core's program counter is this
-unfoldable pub is_next : Image → Run → ℕ → ℕ → ℕ → Bool
-is_next image r core pc p =
-    is_core core (slice_get (schedule_in r) p)
-    && ((state_in core (shown_at image r p)).control.pc == pc)
+-- the next step is this core's, and the core's program counter is one of the addresses
+unfoldable pub is_next : Image → Run → Breakpoint → ℕ → Bool
+is_next image r b p =
+    is_core b.core (slice_get (schedule_in r) p)
+    && list_any
+    (λ (address : ℕ). address == (state_in b.core (shown_at image r p)).control.pc)
+    b.addresses
 
--- the first later position
-unfoldable pub break_position : Image → Run → ℕ → ℕ → ℕ → Option ℕ
-break_position image r core pc p = first_from (is_next image r core pc) (suc p) (end_of r - p)
-
--- ---- `watch`
+-- ---- `watch` and `last`
 
 -- an access with this reply stores: a compare-and-swap does where it found what it expected
 abbrev pub stores : Kind → ℕ → Bool
@@ -75,7 +85,20 @@ entries_made image r p = drop (length (entries_before image r p)) (entries_befor
 unfoldable pub stores_word : Image → Run → ℕ → ℕ → Bool
 stores_word image r addr p = list_any (stores_at addr) (entries_made image r p)
 
--- directly after the first step from here on that stores into the word
-unfoldable pub watch_position : Image → Run → ℕ → ℕ → Option ℕ
-watch_position image r addr p =
-    option_map suc (first_from (stores_word image r addr) p (end_of r - p))
+-- ---- searches
+
+-- what is looked for is found at a position
+abbrev pub hits : Image → Run → Target → ℕ → Bool
+hits image r (target.Execution b) p = is_next image r b p
+hits image r (target.Store addr) p = stores_word image r addr p
+
+-- where a search on arrives: at the first later position where a core is next so; or directly after
+-- the first step from here on that stores so
+abbrev pub next_position : Image → Run → Target → ℕ → Option ℕ
+next_position image r (target.Execution b) p = first_step (is_next image r b) r (suc p)
+next_position image r (target.Store addr) p =
+    option_map suc (first_step (stores_word image r addr) r p)
+
+-- where a search back arrives: at the last earlier position where it is found
+abbrev pub prior_position : Image → Run → Target → ℕ → Option ℕ
+prior_position image r t p = last_before (hits image r t) p

@@ -1,13 +1,10 @@
 //! What `calls` prints.
-ghost use Rattle.std.specs.Prelude.{◌≡◌, ◌<◌, ◌≤◌, ◌++◌, ℕ, OnOk, Some, None, length, string_bytes};
-ghost use Rattle.xt_debug.specs.Calls.{address_text, call_line, call_lines, call_mark, calls_text, stack_end};
-ghost use Rattle.xt_debug.specs.Depths.{frame_at};
+ghost use Rattle.std.specs.Prelude.{◌≡◌, ◌≤◌, ◌++◌, ℕ, OnOk, Some, None, length, string_bytes};
+ghost use Rattle.xt_debug.specs.Calls.{address_text, call_line, call_lines, call_mark, calls_text};
 
-use crate::depths::walk_at;
 use std::alloc::{AllocError, Global};
 use std::fmt::Write;
 use xt_frames::Frames;
-use xt_replay::Replay;
 use xt_word::push_hex8;
 
 // Appends an address, or `--------` where it is not known.
@@ -60,42 +57,27 @@ fn push_each_call(out: &mut String, frames: &Frames) -> Result<(), AllocError>
     Ok(())
 }
 
-// Appends the line that says that the frames of a core are not known.
+/// Appends the line that says that the frames of a core are not known.
 #[tactic(auto, unfolding(crate::specs::Calls::calls_text))]
-fn push_unknown(alloc: Global, out: &mut Vec<u8>, core: u8) -> Result<(), AllocError>
+pub fn push_unknown(alloc: Global, out: &mut Vec<u8>, core: u8) -> Result<(), AllocError>
     ensures { (hi : ℕ) → OnOk result (out.new.items ≡ out.old.items ++ calls_text core hi None) }
 {
     let text = format!(in alloc; "calls {core} none\n")?;
     out.extend_from_slice(text.as_bytes())
 }
 
-// Appends the lines of the frames of a core.
+/// Appends the lines of the frames of a core.
 #[tactic(auto, unfolding(crate::specs::Calls::calls_text))]
-fn push_known(alloc: Global, out: &mut Vec<u8>, core: u8, frames: &Frames) -> Result<(), AllocError>
+pub fn push_known(
+    alloc: Global,
+    out: &mut Vec<u8>,
+    core: u8,
+    frames: &Frames,
+) -> Result<(), AllocError>
     ensures { OnOk result (out.new.items ≡ out.old.items ++ calls_text core frames.now.bounds.range.hi (Some frames.now.state)) }
 {
     let mut text = String::new(alloc);
     write!(&mut text, "calls {core}\n")?;
     push_each_call(&mut text, frames)?;
     out.extend_from_slice(text.as_bytes())
-}
-
-/// Appends the lines of the frames of a core at the position of a replay, or the line that says that
-/// they are not known.
-///
-/// Condition: the core is 0 or 1.
-pub fn push_calls(
-    alloc: Global,
-    out: &mut Vec<u8>,
-    core: u8,
-    replay: &Replay,
-) -> Result<(), AllocError>
-    requires { core < 2 }
-    ensures { OnOk result (out.new.items ≡ out.old.items ++ calls_text core (stack_end core replay.now.run) (frame_at replay.now.image replay.now.run core replay.now.position)) }
-{
-    let found = walk_at(alloc, replay)?;
-    match found {
-        None => push_unknown(alloc, out, core),
-        Some(walk) => push_known(alloc, out, core, walk.frames(core)),
-    }
 }

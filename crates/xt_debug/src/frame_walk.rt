@@ -4,6 +4,7 @@ ghost use Rattle.xt_trace.specs.declared.run.Run.{Run};
 ghost use Rattle.xt_image.specs.declared.image.Image.{Image};
 ghost use Rattle.xt_debug.specs.FrameWalks.{IsTurnOf, StandsAt, course_of, is_lost, opening_course};
 
+use crate::calls::{push_known, push_unknown};
 use crate::frame_notes::{push_frames, push_no_frames};
 use std::alloc::{AllocError, Global};
 use std::marker::Model;
@@ -112,8 +113,8 @@ fn step<R: Records>(
 impl<'a> FrameWalk<'a> {
     ghost use Rattle.xt_map.specs.Placing.{IsPlaced};
     ghost use Rattle.xt_core.specs.Runs.{IsRunOf};
-    ghost use Rattle.xt_debug.specs.Calls.{stack_end};
-    ghost use Rattle.xt_debug.specs.Depths.{frame_at};
+    ghost use Rattle.xt_debug.specs.Calls.{calls_text, stack_end};
+    ghost use Rattle.xt_debug.specs.Depths.{depth_at, frame_at};
     ghost use Rattle.xt_debug.specs.FrameNotes.{note_at, note_text};
     ghost use Rattle.xt_debug.specs.FrameWalks.{Advances, Skips};
 
@@ -171,6 +172,40 @@ impl<'a> FrameWalk<'a> {
                 return;
             }
         }
+    }
+
+    /// The position: how many turns it has gone over.
+    pub fn position(&self) -> u32
+        ensures { result ≡ self.now.position }
+    {
+        self.position
+    }
+
+    /// How many frames of callers a core has; none if the window handlers do not pass their check, or a breach comes
+    /// before the position.
+    ///
+    /// Condition: the core is 0 or 1.
+    pub fn depth(&self, core: u8) -> Option<u32>
+        requires { core < 2 }
+        ensures { result ≡ depth_at self.now.image self.now.run core self.now.position }
+    {
+        if is_lost(self.course) {
+            return None;
+        }
+        Some(self.walk.frames(core).depth())
+    }
+
+    /// Appends the lines of the frames of a core, or the line that says that they are not known.
+    ///
+    /// Condition: the core is 0 or 1.
+    pub fn push_calls(&self, alloc: Global, out: &mut Vec<u8>, core: u8) -> Result<(), AllocError>
+        requires { core < 2 }
+        ensures { OnOk result (out.new.items ≡ out.old.items ++ calls_text core (stack_end core self.now.run) (frame_at self.now.image self.now.run core self.now.position)) }
+    {
+        if is_lost(self.course) {
+            return push_unknown(alloc, out, core);
+        }
+        push_known(alloc, out, core, self.walk.frames(core))
     }
 
     // Appends what is known of a core's frames, as a note on a line.

@@ -2,10 +2,11 @@
 #![tactic(auto)]
 
 mod calls;
-mod depths;
+mod debugger;
 mod frame_lines;
 mod frame_notes;
 mod frame_walk;
+mod kept_walk;
 mod parsing;
 mod printing;
 mod ring;
@@ -13,9 +14,12 @@ mod running;
 mod script;
 mod searching;
 mod special;
+mod targets;
 mod turns;
 
+pub use debugger::Debugger;
 pub use frame_lines::FrameLines;
 pub use parsing::parse_script;
-pub use running::{Printed, run_script};
+pub use running::Printed;
 pub use script::{Command, Script, ScriptFault};
+pub use targets::{Addresses, Breakpoint, Target};

@@ -1,22 +1,24 @@
 //! Running the commands of a script.
-ghost use Rattle.std.specs.Prelude.{◌≡◌, ◌<◌, ◌+◌, ◌++◌, [], false, not, All, MatchResult, Some, if◌then◌else◌};
+ghost use Rattle.std.specs.Prelude.{◌≡◌, ◌<◌, ◌+◌, ◌++◌, [], false, not, All, MatchResult, OnOk, Some, if◌then◌else◌};
+ghost use Rattle.xt_events.specs.Events.{events_text};
 ghost use Rattle.xt_events.specs.Lines.{turns_text};
 ghost use Rattle.xt_debug.specs.Grammar.{IsInRange};
 ghost use Rattle.xt_debug.specs.Printed.{none_found, past_end};
-ghost use Rattle.xt_debug.specs.Runs.{Arrives, Ran, RanScript};
+ghost use Rattle.xt_debug.specs.Runs.{Arrives, IsOf, Ran, RanScript};
 ghost use Rattle.xt_debug.specs.Scripts.{Outcome, outcome, position_back, shows, stops};
 ghost use Rattle.xt_debug.specs.Searches.{end_of, step_position, within};
 
-use crate::calls::push_calls;
-use crate::depths::depth_at;
-use crate::printing::{push_frames, push_regs};
+use crate::frame_walk::FrameWalk;
+use crate::kept_walk::{show_calls, show_frames};
+use crate::printing::push_regs;
 use crate::ring::push_ring;
 use crate::script::{Command, Script};
-use crate::searching::{find_break, find_store};
+use crate::searching::{find_ahead, find_behind, reach};
 use crate::special::push_special_registers;
 use crate::turns::push_turns;
 use std::alloc::{AllocError, Global};
 use xt_command_line::Beyond;
+use xt_events::events_text;
 use xt_map::Text;
 use xt_replay::{Replay, end_of, push_mem, push_words};
 
@@ -93,57 +95,75 @@ fn trace(
     if end_of(replay) - position < count {
         return push_past_end(out, false);
     }
-    let to = position + count;
-    push_turns(alloc, out, replay.image(), replay.run(), position, to)?;
-    let _ = replay.seek(to);
-    Ok(false)
+    match push_turns(alloc, out, replay, position + count) {
+        Ok(()) => Ok(false),
+        Err(error) => {
+            reach(replay, position);
+            Err(error)
+        }
+    }
+}
+
+// Appends the kinds of turns that a run has.
+fn push_events(alloc: Global, out: &mut Vec<u8>, replay: &Replay) -> Result<(), AllocError>
+    ensures { OnOk result (out.new.items ≡ out.old.items ++ events_text replay.now.image replay.now.run) }
+{
+    let text = events_text(alloc, replay.image(), replay.run())?;
+    out.extend_from_slice(text.as_slice())
 }
 
 // One command, whose text is appended. The answer is whether it led beyond the run.
-fn run_command(
+fn run_command<'a>(
     alloc: Global,
-    replay: &mut Replay,
-    command: Command,
+    replay: &mut Replay<'a>,
+    kept: &mut Option<FrameWalk<'a>>,
+    command: &Command,
     out: &mut Vec<u8>,
 ) -> Result<bool, AllocError>
-    requires { IsInRange command }
-    ensures { Ran (outcome replay.old.image replay.old.run command replay.old.position) replay.old out.old.items result replay.new out.new.items }
+    requires range { IsInRange command.now }
+    requires kept { IsOf kept.old replay.old.image replay.old.run }
+    ensures ran { Ran (outcome replay.old.image replay.old.run command.now replay.old.position) replay.old out.old.items result replay.new out.new.items }
+    ensures kept { IsOf kept.new replay.old.image replay.old.run }
 {
     match command {
-        Command::Go(core, step) => push_past_end(out, go(replay, core, step)),
+        Command::Go(core, step) => push_past_end(out, go(replay, *core, *step)),
         Command::End => push_past_end(out, go_to_end(replay)),
-        Command::Next(count) => push_past_end(out, step_on(replay, count)),
-        Command::Back(count) => push_past_end(out, step_back(replay, count)),
-        Command::Break(core, pc) => push_none(out, find_break(replay, core, pc)),
-        Command::Watch(addr) => push_none(out, find_store(replay, addr)),
-        Command::Trace(count) => trace(alloc, replay, count, out),
+        Command::Next(count) => push_past_end(out, step_on(replay, *count)),
+        Command::Back(count) => push_past_end(out, step_back(replay, *count)),
+        Command::Ahead(target) => push_none(out, find_ahead(replay, target)),
+        Command::Behind(target) => push_none(out, find_behind(replay, target)),
+        Command::Trace(count) => trace(alloc, replay, *count, out),
         Command::Regs(core) => {
             let state = replay.state();
-            push_regs(alloc, out, core, state.step(core), state.regs(core))?;
+            push_regs(alloc, out, *core, state.step(*core), state.regs(*core))?;
             Ok(false)
         }
         Command::Ring(core) => {
-            push_ring(alloc, out, core, replay.state().regs(core))?;
+            push_ring(alloc, out, *core, replay.state().regs(*core))?;
             Ok(false)
         }
         Command::Special(core) => {
-            push_special_registers(alloc, out, core, replay.state().regs(core))?;
+            push_special_registers(alloc, out, *core, replay.state().regs(*core))?;
             Ok(false)
         }
         Command::Mem(addr, count) => {
-            push_mem(alloc, out, &replay.state(), addr, count)?;
+            push_mem(alloc, out, &replay.state(), *addr, *count)?;
             Ok(false)
         }
         Command::Words(addr, count) => {
-            push_words(alloc, out, &replay.state(), addr, count)?;
+            push_words(alloc, out, &replay.state(), *addr, *count)?;
             Ok(false)
         }
         Command::Frames(core) => {
-            push_frames(alloc, out, core, depth_at(alloc, replay, core)?)?;
+            show_frames(alloc, out, *core, replay, kept)?;
             Ok(false)
         }
         Command::Calls(core) => {
-            push_calls(alloc, out, core, replay)?;
+            show_calls(alloc, out, *core, replay, kept)?;
+            Ok(false)
+        }
+        Command::Events => {
+            push_events(alloc, out, replay)?;
             Ok(false)
         }
     }
@@ -168,56 +188,22 @@ fn stops(beyond: Beyond, led_beyond: bool) -> bool
     }
 }
 
-/// Runs the commands of a script, one after another, from where the replay stands, and answers what
-/// they print. A command that prints `past end` leads beyond the run; the script ends there, or goes on, as is
-/// asked for.
-///
-/// - `go C N` moves directly before step N of core C, as `Replay::goto`; `next N` and `back N` move
-///   by N positions. Each prints `past end`, and moves nowhere, where the run has no such position. `end`
-///   moves to the position after the last step.
-/// - `break C ADDR` moves to the first later position where core C is next, with this program
-///   counter; `watch ADDR` directly after the first step from here on that stores into the word at
-///   this address, in a memory region. Each prints `none`, and moves nowhere, where there is none.
-/// - `trace N` moves as `next N` does, and prints the line of each turn on the way, as `TurnLines`
-///   gives it.
-/// - `regs C` prints `core C step N pc ADDR ps WORD wb D ws HHHH`, with the number of the core's
-///   next step, and four lines `aI` with four registers each.
-/// - `ring C` prints `core C`, and for each window W a line `W:` with the four registers of the ring
-///   that are its a0 to a3, ` base` where W is WINDOWBASE, and ` start` where its bit of WINDOWSTART
-///   is set.
-/// - `special C` prints `core C`, and for each register that RSR reads, by their numbers, and for
-///   THREADPTR a line `NAME WORD`.
-/// - `mem ADDR N` prints `mem ADDR` and N bytes, `--` for one outside memory and constants; after
-///   the last address comes the first. `words ADDR N` prints `words ADDR` and N words, each with
-///   the digits of its four bytes, the last one first.
-/// - `frames C` prints `frames C depth D`, the number of frames of callers after the judged steps
-///   before the position, or `frames C none` where the window handlers do not pass their check or a
-///   breach of the stack discipline comes before it.
-/// - `calls C` prints `calls C`, and for each frame from the newest to the opening frame a line
-///   `J pc ADDR sp ADDR size N call M`, where J is the number of its callers: where it goes on, which is the
-///   program counter for the newest, and for another the address to which the frame that it called
-///   returns (`--------` if that frame's a0 is not known); its stack pointer; and the bytes from there
-///   up to its caller's, or up to the end of the stack; and 4, 8 or 12 for CALL4, CALL8 or CALL12, by
-///   which it called, without ` call M` for the newest. Or `calls C none`, where `frames C` prints that.
-///
-/// Each line ends with a newline. Addresses, words and registers are eight upper-case hexadecimal
-/// digits, WINDOWSTART four, a byte two; other numbers are decimal. The only error is running out of
-/// memory; the replay then stands where some of the first commands leave it.
-///
-/// Condition: each core is 0 or 1, and each N of `mem` and `words` at most 64, as in every script
-/// that was parsed.
-pub fn run_script(
+/// Runs the commands of a script, as `run` of `Debugger` says, with a walk of the judge that is kept.
+pub fn run_script<'a>(
     alloc: Global,
-    replay: &mut Replay,
+    replay: &mut Replay<'a>,
+    kept: &mut Option<FrameWalk<'a>>,
     script: &Script,
     beyond: Beyond,
 ) -> Result<Printed, AllocError>
-    requires { All IsInRange script.now }
-    ensures { RanScript beyond script.now replay.old result replay.new }
+    requires range { All IsInRange script.now }
+    requires kept { IsOf kept.old replay.old.image replay.old.run }
+    ensures ran { RanScript beyond script.now replay.old result replay.new }
+    ensures kept { IsOf kept.new replay.old.image replay.old.run }
 {
     let mut out = Vec::new(alloc);
     for command in script.as_slice() {
-        let led_beyond = run_command(alloc, replay, *command, &mut out)?;
+        let led_beyond = run_command(alloc, replay, kept, command, &mut out)?;
         if stops(beyond, led_beyond) {
             return Ok(Printed {
                 text: Text::new(out),

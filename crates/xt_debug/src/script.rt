@@ -1,12 +1,13 @@
 ghost use Rattle.std.specs.Prelude.{◌≡◌};
 ghost use Rattle.xt_debug.specs.declared.script.ScriptFault.TheVariants.{Memory};
 
+use crate::targets::Target;
 use std::alloc::{AllocError, AllocFailed};
 use std::marker::Model;
 use thiserror::Error;
 
 /// A command of a script. A core is 0 or 1, a position a number of steps of the run's schedule.
-#[derive(Clone, Copy)]
+#[derive(Drop)]
 pub enum Command {
     /// `go C N`: to the position directly before this core's step of this number.
     Go(u8, u32),
@@ -16,10 +17,12 @@ pub enum Command {
     Next(u32),
     /// `back N`: this many positions back.
     Back(u32),
-    /// `break C ADDR`: to the first later position where this core is next, with this program counter.
-    Break(u8, u32),
+    /// `break C ADDR,ADDR,..`: to the first later position where this core is next, with one of these program counters.
     /// `watch ADDR`: directly after the next step that stores into the word at this address.
-    Watch(u32),
+    Ahead(Target),
+    /// `prior C ADDR,ADDR,..`: to the last earlier position where this core is next, with one of these program counters.
+    /// `last ADDR`: directly before the last step before here that stores into the word at this address.
+    Behind(Target),
     /// `trace N`: this many positions on; prints the line of each turn on the way.
     Trace(u32),
     /// `regs C`: prints the registers of this core.
@@ -36,6 +39,8 @@ pub enum Command {
     Frames(u8),
     /// `calls C`: prints the frames of this core.
     Calls(u8),
+    /// `events`: prints which kinds of turns came in the whole run, how often, and when first.
+    Events,
 }
 
 /// A list of commands. Contracts see the list.

@@ -1,43 +1,51 @@
 //! Positions that commands look for.
-ghost use Rattle.std.specs.Prelude.{◌≡◌, ◌<◌, ◌+◌};
+ghost use Rattle.std.specs.Prelude.{◌≡◌, ◌<◌, ◌≤◌, ◌+◌, ◌==◌, suc, IfSome, Some, if◌then◌else◌};
 ghost use Rattle.std.specs.List.{list_any};
+ghost use Rattle.std.specs.Option.{option_map};
 ghost use Rattle.xt_replay.specs.Shown.{replay_at};
-ghost use Rattle.xt_debug.specs.Runs.{Arrives};
-ghost use Rattle.xt_debug.specs.Searches.{break_position, end_of, is_next, stores, stores_at, stores_word, watch_position};
+ghost use Rattle.xt_debug.specs.Grammar.{HasCore};
+ghost use Rattle.xt_debug.specs.Runs.{Arrives, or_else};
+ghost use Rattle.xt_debug.specs.Searches.{end_of, first_step, hits, is_next, last_before, next_position, prior_position, stores, stores_at, stores_word};
 
+use crate::targets::{Breakpoint, Target};
 use xt_map::{Entry, Kind, is_in_memory};
 use xt_replay::{Replay, end_of};
 
-// The next step is this core's, and the core's program counter is this.
-#[tactic(auto, unfolding(crate::specs::Searches::is_next))]
-fn is_next(replay: &Replay, core: u8, pc: u32) -> bool
-    requires { core < 2 }
-    ensures { result ≡ is_next replay.now.image replay.now.run core pc replay.now.position }
+// How many positions a search back goes over at a time: as many as lie between two copies of a replay.
+const PART: u32 = 65536;
+
+/// Moves to a position.
+///
+/// Condition: the run has it.
+pub fn reach(replay: &mut Replay, position: u32)
+    requires { position ≤ end_of replay.old.run }
+    ensures { replay.new ≡ replay_at replay.old position }
 {
-    match replay.next_core() {
-        Some(next) => next == core && replay.state().regs(core).pc == pc,
-        None => false,
-    }
+    let _ = replay.seek(position);
 }
 
-/// Moves to the first later position at which the next step is this core's, with this program
-/// counter. Where there is none, nothing changes.
-///
-/// Condition: the core is 0 or 1.
-pub fn find_break(replay: &mut Replay, core: u8, pc: u32) -> bool
-    requires { core < 2 }
-    ensures { Arrives (break_position replay.old.image replay.old.run core pc replay.old.position) replay.old result replay.new }
+fn is_among(addresses: &[u32], pc: u32) -> bool
+    ensures { result ≡ list_any (λ address. address == pc) addresses.now }
 {
-    let start = replay.position();
-    let end = end_of(replay);
-    for position in start..end {
-        let _ = replay.seek(position + 1);
-        if is_next(replay, core, pc) {
-            return true;
+    addresses.iter().any(|address| *address == pc)
+}
+
+// The next step is this core's, and the core's program counter is one of the addresses.
+#[tactic(auto, unfolding(crate::specs::Searches::is_next))]
+fn is_next(replay: &Replay, breakpoint: &Breakpoint) -> bool
+    requires { breakpoint.now.core < 2 }
+    ensures { result ≡ is_next replay.now.image replay.now.run breakpoint.now replay.now.position }
+{
+    match replay.next_core() {
+        Some(next) => {
+            next == breakpoint.core
+                && is_among(
+                    breakpoint.addresses.as_slice(),
+                    replay.state().regs(breakpoint.core).pc,
+                )
         }
+        None => false,
     }
-    let _ = replay.seek(start);
-    false
 }
 
 // An access with this reply stores.
@@ -80,18 +88,138 @@ fn step_stores(replay: &mut Replay, addr: u32, next: u32) -> bool
     before < after && any_stores(addr, &replay.run().history.as_slice()[before..after])
 }
 
-/// Moves directly after the first step from here on that stores into the word at this address.
-/// Where there is none, nothing changes.
-pub fn find_store(replay: &mut Replay, addr: u32) -> bool
-    ensures { Arrives (watch_position replay.old.image replay.old.run addr replay.old.position) replay.old result replay.new }
+// Makes the next step, and answers whether the target is found where it begins.
+fn step_hits(replay: &mut Replay, target: &Target, next: u32) -> bool
+    requires core { HasCore target.now }
+    requires next { next ≡ replay.old.position + 1 }
+    requires more { replay.old.position < end_of replay.old.run }
+    ensures moved { replay.new ≡ replay_at replay.old (replay.old.position + 1) }
+    ensures hits { result ≡ hits replay.old.image replay.old.run target.now replay.old.position }
 {
-    let start = replay.position();
-    let end = end_of(replay);
-    for position in start..end {
-        if step_stores(replay, addr, position + 1) {
-            return true;
+    match target {
+        Target::Store(addr) => step_stores(replay, *addr, next),
+        Target::Execution(breakpoint) => {
+            let found = is_next(replay, breakpoint);
+            reach(replay, next);
+            found
         }
     }
-    let _ = replay.seek(start);
-    false
+}
+
+// The first position from here on at which the target is found. It moves somewhere.
+fn first(replay: &mut Replay, target: &Target) -> Option<u32>
+    requires { HasCore target.now }
+    ensures found { result ≡ first_step (hits replay.old.image replay.old.run target.now) replay.old.run replay.old.position }
+    ensures range { IfSome result (λ q. q < end_of replay.old.run) }
+    ensures moved { replay.new ≡ replay_at replay.old replay.new.position }
+{
+    let end = end_of(replay);
+    for position in replay.position()..end {
+        if step_hits(replay, target, position + 1) {
+            return Some(position);
+        }
+    }
+    None
+}
+
+// A position that was found, or else what was found before.
+fn newer(is_found: bool, position: u32, found: Option<u32>) -> Option<u32>
+    ensures { result ≡ (if is_found then Some position else found) }
+{
+    if is_found { Some(position) } else { found }
+}
+
+// The last position from here on to before another at which the target is found. It moves to the other one.
+fn last_until(replay: &mut Replay, target: &Target, to: u32) -> Option<u32>
+    requires core { HasCore target.now }
+    requires from { replay.old.position ≤ to }
+    requires within { to ≤ end_of replay.old.run }
+    ensures found { let test = hits replay.old.image replay.old.run target.now in
+        or_else result (last_before test replay.old.position) ≡ last_before test to }
+    ensures range { IfSome result (λ q. q < to) }
+    ensures moved { replay.new ≡ replay_at replay.old to }
+{
+    let mut found = None;
+    for position in replay.position()..to {
+        let is_found = step_hits(replay, target, position + 1);
+        found = newer(is_found, position, found);
+    }
+    found
+}
+
+// Moves to a position that was found; if none was, to where the search began.
+fn arrive(replay: &mut Replay, found: Option<u32>, start: u32) -> bool
+    requires found { IfSome found (λ q. q ≤ end_of replay.old.run) }
+    requires start { start ≤ end_of replay.old.run }
+    ensures { Arrives found (replay_at replay.old start) result replay.new }
+{
+    match found {
+        Some(position) => {
+            reach(replay, position);
+            true
+        }
+        None => {
+            reach(replay, start);
+            false
+        }
+    }
+}
+
+// The position after a step that was found.
+fn after(found: Option<u32>) -> Option<u32>
+    requires { IfSome found (λ q. q < 8000000) }
+    ensures { result ≡ option_map suc found }
+{
+    match found {
+        Some(position) => Some(position + 1),
+        None => None,
+    }
+}
+
+// Moves directly after the first step from here on at which the target is found.
+fn find_store(replay: &mut Replay, target: &Target) -> bool
+    requires { HasCore target.now }
+    ensures { Arrives (option_map suc (first_step (hits replay.old.image replay.old.run target.now) replay.old.run replay.old.position)) replay.old result replay.new }
+{
+    let start = replay.position();
+    let found = first(replay, target);
+    arrive(replay, after(found), start)
+}
+
+/// Moves to where a search on arrives: at the first later position at which a core is next as is asked for, or directly
+/// after the first step from here on that stores as is asked for. If there is none, nothing changes.
+///
+/// Condition: the core, if the target has one, is 0 or 1.
+pub fn find_ahead(replay: &mut Replay, target: &Target) -> bool
+    requires { HasCore target.now }
+    ensures { Arrives (next_position replay.old.image replay.old.run target.now replay.old.position) replay.old result replay.new }
+{
+    let start = replay.position();
+    match target {
+        Target::Execution(_) => {
+            reach(replay, end_of(replay).min(start + 1));
+            let found = first(replay, target);
+            arrive(replay, found, start)
+        }
+        Target::Store(_) => find_store(replay, target),
+    }
+}
+
+/// Moves to the last earlier position at which the target is found. If there is none, nothing changes.
+///
+/// Condition: the core, if the target has one, is 0 or 1.
+pub fn find_behind(replay: &mut Replay, target: &Target) -> bool
+    requires { HasCore target.now }
+    ensures { Arrives (prior_position replay.old.image replay.old.run target.now replay.old.position) replay.old result replay.new }
+{
+    let start = replay.position();
+    let mut to = start;
+    'parts: while 0 < to {
+        reach(replay, (to - 1) - (to - 1) % PART);
+        if let Some(position) = last_until(replay, target, to) {
+            return arrive(replay, Some(position), start);
+        }
+        to = (to - 1) - (to - 1) % PART;
+    }
+    arrive(replay, None, start)
 }

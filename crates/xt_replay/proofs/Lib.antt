@@ -5,4 +5,5 @@ pub mod Placing
 pub mod Keeping
 pub mod Inside
 pub mod Moving
+pub mod Recorded
 mod Bytes

@@ -1,5 +1,6 @@
 -- A run of an opening at each position of its own schedule.
 use Rattle.std.proofs.Common.{◌≡◌, ℕ, zero, suc, ◌+◌, ◌-◌, ◌<◌, ◌≤◌, Option, Some, None, List, [], ◌∷◌, ◌++◌, length, take, drop, get_or, refl, sym, ap, ◌∙◌, subst, append_assoc, arith}
+use Rattle.std.specs.Prelude.{slice_get}
 use Rattle.std.proofs.lemmas.List.{append-nil, length_push, take_more, drop_more, take-append-drop}
 use Rattle.std.proofs.Math.Seq.{take-append_seam}
 use Rattle.xt_map.specs.declared.access.Access.{Access}
@@ -67,6 +68,8 @@ pub record At {S : Type 0} (P : Chip S) (r : Run S) (p : ℕ) (w : World S) : Ty
   pub count0 : length w.core0.records + length xs ≡ length r.trace0.records
   pub count1 : length w.core1.records + length ys ≡ length r.trace1.records
   pub entries : drop (length w.line.history) r.history ≡ es
+  pub all0 : w.core0.records ++ xs ≡ r.trace0.records
+  pub all1 : w.core1.records ++ ys ≡ r.trace1.records
   pub sum : length w.core0.records + length w.core1.records ≡ p
 
 abbrev pub side : {S : Type 0} → ℕ → World S → Core S
@@ -76,12 +79,36 @@ side (suc c) w = w.core1
 abbrev pub made : {S : Type 0} → ℕ → World S → ℕ
 made c w = length (side c w).records
 
+abbrev pub recorded : {S : Type 0} → ℕ → Run S → List StepRecord
+recorded zero r = r.trace0.records
+recorded (suc c) r = r.trace1.records
+
 -- the next step is one turn of this core
 pub record Next {S : Type 0} (P : Chip S) (r : Run S) (p : ℕ) (w : World S) (c : ℕ) : Type 0 where
   pub here : get_or (schedule_of r) p 0 ≡ c
   pub left : 0 < (side c w).left
   pub next : next_of (drop (length w.line.history) r.history) (length w.core0.records) (length r.trace0.records) ≡ c
   pub on : At P r (p + 1) (give P c w)
+  pub record_is : slice_get (recorded c r) (made c w) ≡ Some (next_record P (side c w) w.line)
+
+at_seam : (xs : List StepRecord) (x : StepRecord) (ys : List StepRecord) → slice_get (xs ++ (x ∷ ys)) (length xs) ≡ Some x
+at_seam [] x ys = refl
+at_seam (y ∷ xs) x ys = at_seam xs x ys
+
+-- the record after those that were made
+record_there : (xs : List StepRecord) (x : StepRecord) (ys all : List StepRecord) → xs ++ (x ∷ ys) ≡ all → slice_get all (length xs) ≡ Some x
+record_there xs x ys all e = sym (ap (λ (l : List StepRecord). slice_get l (length xs)) e) ∙ at_seam xs x ys
+
+-- all records are those that were made, the next one, and the rest
+made_next : (xs left : List StepRecord) (x y : StepRecord) (rest all : List StepRecord) → left ≡ y ∷ rest → y ≡ x → xs ++ left ≡ all → xs ++ (x ∷ rest) ≡ all
+made_next xs left x y rest all splits same whole =
+    ap (λ (l : List StepRecord). xs ++ l) (sym (splits ∙ ap (λ (z : StepRecord). z ∷ rest) same)) ∙ whole
+
+-- the same after the turn
+made_more : {S : Type 0} (P : Chip S) (k : Core S) (b : Line) (rest all : List StepRecord) → 0 < k.left → k.records ++ (next_record P k b ∷ rest) ≡ all
+    → (core_given P k.left k b).records ++ rest ≡ all
+made_more {S = S} P k b rest all h whole =
+    ap (λ (x : Core S). x.records ++ rest) (core_turned P k b k.left h) ∙ append_assoc k.records (next_record P k b ∷ []) rest ∙ whole
 
 head_is : (p : ℕ) (l : List ℕ) (c : ℕ) (t : List ℕ) → p < length l → drop p l ≡ c ∷ t → (get_or l p 0 ≡ c) × (drop (p + 1) l ≡ t)
 head_is p l c t lt e =
@@ -108,6 +135,7 @@ next_zero {S = S} P r p w a lt z =
     let w2 = give P 0 w in
     let es2 = past z.first.access a.es in
     let more : suc i ≡ length w2.core0.records = sym (more_records P w.core0 w.line walk.2) in
+    let whole = made_next w.core0.records a.xs x z.first z.rest r.trace0.records z.splits same.0 a.all0 in
     let V : List StepRecord → Type 0 = λ xs. IsWalk P (drop (p + 1) l) w2 xs a.ys in
     let U : List ℕ → Type 0 = λ q. IsWalk P q w2 walk.0 a.ys in
     let long : length a.xs ≡ suc (length z.rest) = ap length z.splits in
@@ -127,8 +155,11 @@ next_zero {S = S} P r p w a lt z =
         entries = ap (λ (b : Line). drop (length b.history) r.history) (line_turned P 0 w.core0 w.line w.core0.left walk.2)
             ∙ entries_on 0 (P.demand w.core0.state) w.line r.history a.es a.entries
             ∙ ap (λ (d : Option Access). past d a.es) (sym asked);
+        all0 = made_more P w.core0 w.line z.rest r.trace0.records walk.2 whole;
+        all1 = a.all1;
         sum = omega (arith, more, a.sum);
       };
+      record_is = record_there w.core0.records x z.rest r.trace0.records whole;
     }
 
 next_one : {S : Type 0} (P : Chip S) (r : Run S) (p : ℕ) (w : World S) (a : At P r p w) → p < length (schedule_of r)
@@ -148,6 +179,7 @@ next_one {S = S} P r p w a lt z =
     let w2 = give P 1 w in
     let es2 = past z.first.access a.es in
     let more : suc j ≡ length w2.core1.records = sym (more_records P w.core1 w.line walk.2) in
+    let whole = made_next w.core1.records a.ys x z.first z.rest r.trace1.records z.splits same.0 a.all1 in
     let V : List StepRecord → Type 0 = λ ys. IsWalk P (drop (p + 1) l) w2 a.xs ys in
     let U : List ℕ → Type 0 = λ q. IsWalk P q w2 a.xs walk.0 in
     let long : length a.ys ≡ suc (length z.rest) = ap length z.splits in
@@ -167,8 +199,11 @@ next_one {S = S} P r p w a lt z =
         entries = ap (λ (b : Line). drop (length b.history) r.history) (line_turned P 1 w.core1 w.line w.core1.left walk.2)
             ∙ entries_on 1 (P.demand w.core1.state) w.line r.history a.es a.entries
             ∙ ap (λ (d : Option Access). past d a.es) (sym asked);
+        all0 = a.all0;
+        all1 = made_more P w.core1 w.line z.rest r.trace1.records walk.2 whole;
         sum = omega (arith, more, a.sum);
       };
+      record_is = record_there w.core1.records x z.rest r.trace1.records whole;
     }
 
 pub data Turn {S : Type 0} (P : Chip S) (r : Run S) (p : ℕ) (w : World S) : Type 0 where
@@ -205,6 +240,8 @@ at_start {S = S} P o r h =
       count0 = omega arith;
       count1 = omega arith;
       entries = refl;
+      all0 = refl;
+      all1 = refl;
       sum = omega arith;
     }
 

@@ -1,13 +1,16 @@
 -- A replay of a run, and what it shows at a position ('profile').
-use Rattle.std.specs.Prelude.{ℕ, zero, suc, if◌then◌else◌, Option, Some, None, List, length}
+use Rattle.std.specs.Prelude.{◌≡◌, ℕ, zero, suc, ◌<◌, ◌≤◌, if◌then◌else◌, Option, Some, None, List}
+use Rattle.std.specs.Prelude.{length, slice_get}
 use Rattle.xt_map.specs.declared.contents.MemoryContents.{MemoryContents}
 use Rattle.xt_map.specs.declared.segment.Segment.{Segment}
 use Rattle.xt_map.specs.Memory.{byte_at, constant_byte}
 use Rattle.xt_map.specs.Regions.{is_constant, is_memory, region_of}
+use Rattle.xt_trace.specs.declared.record.StepRecord.{StepRecord}
 use Rattle.xt_trace.specs.declared.run.Run.{Run}
 use Rattle.xt_image.specs.declared.image.Image.{Image}
 use Rattle.xt_exec.specs.State.{State}
-use Rattle.xt_core.specs.Positions.{world_at}
+use Rattle.xt_core.specs.Positions.{schedule_in, world_at}
+use Rattle.xt_core.specs.Runs.{records_of}
 
 -- a run of an image, and a position: a number of steps of the run's schedule
 pub record ReplayState : Type 0 where
@@ -56,3 +59,13 @@ abbrev pub byte_in : ℕ → Shown → Option ℕ
 byte_in a s =
     if is_memory (region_of a) then Some (byte_at s.memory a)
     else (if is_constant (region_of a) then Some (constant_byte s.segments a) else None)
+
+-- the core of the next turn of a replay, and the record that this core's trace has of it; or there is
+-- no turn left
+abbrev pub IsNextTurn : Option (ℕ × StepRecord) → ReplayState → Type 0
+IsNextTurn None s = length (schedule_in s.run) ≤ s.position
+IsNextTurn (Some (core, x)) s =
+    (slice_get (schedule_in s.run) s.position ≡ Some core)
+    × (core < 2)
+    × (slice_get (records_of core s.image s.run).records (step_in core (shown_at s.image s.run s.position))
+    ≡ Some x)

@@ -1,11 +1,13 @@
 -- Carries a proof; nothing that a reader must believe.
 -- Two cores at work over one memory, as the places in a world that a replay keeps.
 use Rattle.std.specs.Prelude.{◌≡◌, ℕ, zero, suc, ◌+◌, ◌-◌, ◌≤◌, nat_lt, if◌then◌else◌, Option, Some}
-use Rattle.std.specs.Prelude.{None, List, [], ◌∷◌, length}
+use Rattle.std.specs.Prelude.{None, List, [], ◌∷◌, length, slice_get}
+use Rattle.std.specs.Option.{option_map_or}
 use Rattle.xt_map.specs.declared.access.Access.{Access}
 use Rattle.xt_map.specs.declared.access.Entry.{Entry}
 use Rattle.xt_map.specs.declared.contents.MemoryContents.{MemoryContents}
 use Rattle.xt_trace.specs.declared.options.Options.{Options}
+use Rattle.xt_trace.specs.declared.record.StepRecord.{StepRecord}
 use Rattle.xt_trace.specs.declared.run.Run.{Run}
 use Rattle.xt_image.specs.declared.image.Image.{Image}
 use Rattle.xt_trace.specs.Runs.{Opening}
@@ -136,6 +138,22 @@ pub record Comes (image : Image) (r : Run) (core step p : ℕ) : Type 0 where
   pub most : step_in core (shown_at image r p) ≤ step
   pub behind : step ≡ (trace_in core r).count → step_in core (shown_at image r p) ≡ step
       → p ≡ place_behind core step (schedule_in r)
+
+-- the reply of the next entry, where so many were served
+abbrev pub next_reply : List Entry → ℕ → ℕ
+next_reply es n = option_map_or (λ (e : Entry). e.reply) (slice_get es n) 0
+
+-- the right reply for a turn that asks so; one that asks nothing takes any
+abbrev pub IsReply : Option Access → ℕ → ℕ → Type 0
+IsReply None reply right = Unit {0}
+IsReply (Some a) reply right = reply ≡ right
+
+-- the record of a core's next turn
+abbrev pub record_in : (ℕ → ℕ) → ℕ → Stand → StepRecord
+record_in code zero s =
+    (turn code s.side0.state (answer (demand code s.side0.state) s.memory)).0
+record_in code (suc c) s =
+    (turn code s.side1.state (answer (demand code s.side1.state) s.memory)).0
 
 -- the core of the next step, where these entries are left, and core 0 has made i of its n steps
 abbrev pub next_of : List Entry → ℕ → ℕ → ℕ

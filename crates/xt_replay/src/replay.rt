@@ -4,11 +4,12 @@ ghost use Rattle.xt_replay.specs.Stands.{next_of};
 
 use crate::pair::{Checkpoint, Mark, Pair};
 use crate::state::State;
+use crate::turns::{next_reply, record_from};
 use std::alloc::{AllocError, Global};
 use std::marker::Model;
 use xt_image::Image;
 use xt_map::Constants;
-use xt_trace::Run;
+use xt_trace::{Run, StepRecord};
 
 // How many steps lie between two checkpoints.
 const APART: u32 = 65536;
@@ -86,12 +87,12 @@ impl Checkpoint {
 }
 
 impl<'a> Replay<'a> {
-    ghost use Rattle.std.specs.Prelude.{◌≡◌, ◌+◌, ◌<◌, ◌≤◌, true, false, IfOk, MatchResult, length, slice_get, take};
+    ghost use Rattle.std.specs.Prelude.{◌≡◌, ◌+◌, ◌<◌, ◌≤◌, true, false, IfOk, MatchResult, Some, length, slice_get, take};
     ghost use Rattle.xt_map.specs.Placing.{IsPlaced};
     ghost use Rattle.xt_core.specs.Positions.{schedule_in, world_at};
-    ghost use Rattle.xt_core.specs.Runs.{IsRunOf};
+    ghost use Rattle.xt_core.specs.Runs.{IsRunOf, records_of};
     ghost use Rattle.xt_replay.specs.Places.{position_of, trace_in};
-    ghost use Rattle.xt_replay.specs.Shown.{replay_at, shown_at, step_in};
+    ghost use Rattle.xt_replay.specs.Shown.{IsNextTurn, replay_at, shown_at, step_in};
     ghost use Rattle.xt_replay.specs.Stands.{Comes};
 
     /// The run at position 0. All memory is taken here, also that of copies of what the run has at
@@ -128,7 +129,7 @@ impl<'a> Replay<'a> {
     }
 
     /// The image.
-    pub fn image(&self) -> &Image
+    pub fn image(&self) -> &'a Image
         ensures image { result.now ≡ self.now.image }
         ensures placed { IsPlaced self.now.image.segments }
     {
@@ -136,7 +137,7 @@ impl<'a> Replay<'a> {
     }
 
     /// The run, which is the image's.
-    pub fn run(&self) -> &Run
+    pub fn run(&self) -> &'a Run
         ensures run { result.now ≡ self.now.run }
         ensures is { IsRunOf self.now.image self.now.run }
     {
@@ -348,6 +349,31 @@ impl<'a> Replay<'a> {
         ensures entries { (world_at self.now.image self.now.run self.now.position).line.history ≡ take result self.now.run.history }
     {
         self.pair.used
+    }
+
+    // The record of the next turn, which is this core's.
+    fn record(&self, core: u8) -> StepRecord
+        requires core { core < 2 }
+        requires next { slice_get (schedule_in self.now.run) self.now.position ≡ Some core }
+        ensures { slice_get (records_of core self.now.image self.now.run).records (step_in core (shown_at self.now.image self.now.run self.now.position)) ≡ Some result }
+    {
+        let reply = next_reply(self.run, self.pair.used);
+        if core == 0 {
+            record_from(self.pair.core0.regs(), &self.code, reply)
+        } else {
+            record_from(self.pair.core1.regs(), &self.code, reply)
+        }
+    }
+
+    /// The core of the next turn, 0 or 1, and the turn's record. None comes exactly at the end of the schedule.
+    pub fn next_turn(&self) -> Option<(u8, StepRecord)>
+        ensures { IsNextTurn result self.now }
+    {
+        let _ = &self.image;
+        match self.next_core() {
+            Some(core) => Some((core, self.record(core))),
+            None => None,
+        }
     }
 
     // Whether it stands directly before a core's step with this number, or after its last.

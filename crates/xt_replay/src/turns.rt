@@ -4,18 +4,20 @@ ghost use Rattle.xt_map.specs.Memory.{constant_byte};
 ghost use Rattle.xt_trace.specs.Validity.{IsValid};
 ghost use Rattle.xt_trace.specs.Worlds.{answer, memory_left};
 ghost use Rattle.xt_bus.specs.States.{memory_state};
-ghost use Rattle.xt_exec.specs.Turn.{demand};
+ghost use Rattle.xt_exec.specs.States.{file_state};
+ghost use Rattle.xt_exec.specs.Turn.{demand, turn};
 ghost use Rattle.xt_core.specs.Cores.{core_after_turn};
 ghost use Rattle.xt_core.specs.Runs.{opening_of};
-ghost use Rattle.xt_replay.specs.Stands.{entries_past, HasRoom, IsAsRoomy, mark_stand, stand_of, stand_opening, stand_past};
+ghost use Rattle.xt_replay.specs.Stands.{entries_past, HasRoom, IsAsRoomy, IsReply, mark_stand, next_reply, stand_of, stand_opening, stand_past};
 
 use crate::pair::{Mark, Pair};
 use std::alloc::{AllocError, Global};
 use xt_bus::Memory;
-use xt_core::{Begin, Core, stack_links};
+use xt_core::{Begin, Core, StartedTurn, end_turn, stack_links, start_turn};
+use xt_exec::Regs;
 use xt_image::Image;
 use xt_map::Constants;
-use xt_trace::Options;
+use xt_trace::{Options, Run, StepRecord};
 use xt_window::WindowFile;
 
 // One turn of a core that has one left. It answers whether the turn made an access.
@@ -35,6 +37,28 @@ fn make_turn(core: &mut Core<WindowFile>, code: &Constants, memory: &mut Memory)
         }
         Begin::Local => false,
         Begin::Ended => false,
+    }
+}
+
+/// The reply of the next entry of a run's history, where so many were served; 0 after the last one.
+pub fn next_reply(run: &Run, used: u32) -> u32
+    ensures { result ≡ next_reply run.now.history used }
+{
+    match run.history.as_slice().get(used as usize) {
+        Some(entry) => entry.reply,
+        None => 0,
+    }
+}
+
+/// The record of a turn from these registers, whose access, if it makes one, has this reply.
+pub fn record_from(regs: &Regs<WindowFile>, code: &Constants, reply: u32) -> StepRecord
+    ensures { let s = file_state regs.now in
+        (right : ℕ) → IsReply (demand (constant_byte code.now) s) reply right → result ≡ (turn (constant_byte code.now) s right).0 }
+{
+    let mut regs = *regs;
+    match start_turn(&mut regs, code) {
+        StartedTurn::Local(record) => record,
+        StartedTurn::Asks(pending) => end_turn(&mut regs, pending, reply),
     }
 }
 

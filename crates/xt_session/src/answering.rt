@@ -10,10 +10,9 @@ use crate::lines::{LINES_LIMIT, read_line};
 use std::alloc::Global;
 use std::str;
 use xt_command_line::Beyond;
-use xt_debug::{Script, ScriptFault, parse_script, run_script};
+use xt_debug::{Debugger, Script, ScriptFault, parse_script};
 use xt_io::{ReadError, Refused, Sink, Source};
 use xt_map::Text;
-use xt_replay::Replay;
 use xt_status::{Status, status_after, write_text};
 
 // The script that a line is, None if it is none. The only error is running out of memory.
@@ -36,32 +35,37 @@ fn script_in(alloc: Global, line: &[u8]) -> Result<Option<Script>, Refused>
 // What a line prints whose script begins at position 0. The only error is running out of memory.
 fn printed(
     alloc: Global,
-    replay: &mut Replay,
+    debugger: &mut Debugger,
     beyond: Beyond,
     script: &Option<Script>,
 ) -> Result<Vec<u8>, Refused>
     requires { IfSome script.now (All IsInRange) }
-    ensures text { IfOk result (λ v. v.items ≡ printed beyond replay.old.image replay.old.run script.now) }
-    ensures run { IfOk result (λ v. (replay.new.image ≡ replay.old.image) × (replay.new.run ≡ replay.old.run)) }
+    ensures text { IfOk result (λ v. v.items ≡ printed beyond debugger.old.image debugger.old.run script.now) }
+    ensures run { IfOk result (λ v. (debugger.new.image ≡ debugger.old.image) × (debugger.new.run ≡ debugger.old.run)) }
     ensures memory { IfErr result (λ e. e ≡ Refused.Memory) }
 {
     let Some(script) = script else {
         return Ok(b"Usage 9\n".to_vec(alloc)?);
     };
-    let _ = replay.seek(0);
-    let printed = run_script(alloc, replay, script, beyond)?;
+    let _ = debugger.seek(0);
+    let printed = debugger.run(alloc, script, beyond)?;
     Ok(printed.text.into_vec())
 }
 
 // The answer to a line. The only error is running out of memory.
 #[tactic(auto, unfolding(crate::specs::Session::answer))]
-fn answer(alloc: Global, replay: &mut Replay, beyond: Beyond, line: &[u8]) -> Result<Text, Refused>
-    ensures text { IfOk result (λ text. text ≡ answer beyond replay.old.image replay.old.run line.now) }
-    ensures run { IfOk result (λ text. (replay.new.image ≡ replay.old.image) × (replay.new.run ≡ replay.old.run)) }
+fn answer(
+    alloc: Global,
+    debugger: &mut Debugger,
+    beyond: Beyond,
+    line: &[u8],
+) -> Result<Text, Refused>
+    ensures text { IfOk result (λ text. text ≡ answer beyond debugger.old.image debugger.old.run line.now) }
+    ensures run { IfOk result (λ text. (debugger.new.image ≡ debugger.old.image) × (debugger.new.run ≡ debugger.old.run)) }
     ensures memory { IfErr result (λ e. e ≡ Refused.Memory) }
 {
     let script = script_in(alloc, line)?;
-    let mut text = printed(alloc, replay, beyond, &script)?;
+    let mut text = printed(alloc, debugger, beyond, &script)?;
     text.extend_from_slice(b".\n")?;
     Ok(Text::new(text))
 }
@@ -69,17 +73,17 @@ fn answer(alloc: Global, replay: &mut Replay, beyond: Beyond, line: &[u8]) -> Re
 // Writes the answer to a line.
 fn put_answer<K: Sink>(
     alloc: Global,
-    replay: &mut Replay,
+    debugger: &mut Debugger,
     beyond: Beyond,
     line: &[u8],
     sink: &mut K,
 ) -> Result<(), Refused>
     ensures writes { Writes result
         (K.told sink.old) (K.told sink.new) (K.faults sink.old) (K.faults sink.new)
-        (answer beyond replay.old.image replay.old.run line.now) }
-    ensures run { IfOk result (λ _. (replay.new.image ≡ replay.old.image) × (replay.new.run ≡ replay.old.run)) }
+        (answer beyond debugger.old.image debugger.old.run line.now) }
+    ensures run { IfOk result (λ _. (debugger.new.image ≡ debugger.old.image) × (debugger.new.run ≡ debugger.old.run)) }
 {
-    let text = answer(alloc, replay, beyond, line)?;
+    let text = answer(alloc, debugger, beyond, line)?;
     write_text(&text, sink)
 }
 
@@ -98,11 +102,11 @@ pub(crate) fn status_of(error: ReadError) -> Status
 pub(crate) fn answer_lines<S: Source, K: Sink>(
     alloc: Global,
     beyond: Beyond,
-    replay: &mut Replay,
+    debugger: &mut Debugger,
     source: &mut S,
     sink: &mut K,
 ) -> Status
-    ensures answers { EndsLines beyond replay.old.image replay.old.run
+    ensures answers { EndsLines beyond debugger.old.image debugger.old.run
         (ends S.left S.faults source.old source.new K.told K.faults sink.old sink.new) result }
     ensures later { S.faults source.old ≤ S.faults source.new }
 {
@@ -113,7 +117,7 @@ pub(crate) fn answer_lines<S: Source, K: Sink>(
             Ok(None) => return Status::Done,
             Err(error) => return status_of(error),
         };
-        let written = put_answer(alloc, replay, beyond, line.as_slice(), sink);
+        let written = put_answer(alloc, debugger, beyond, line.as_slice(), sink);
         if written.is_err() {
             return status_after(written);
         }

@@ -6,9 +6,9 @@ use crate::answering::answer_lines;
 use crate::opening::read_opening;
 use std::alloc::Global;
 use xt_command_line::Beyond;
+use xt_debug::Debugger;
 use xt_image::well_formed_is_placed;
 use xt_io::{Sink, Source};
-use xt_replay::Replay;
 use xt_status::{Status, recording_in};
 
 /// Answers scripts over one recording: the source has a line with the number of bytes of the recording, the recording,
@@ -41,8 +41,8 @@ pub fn session<S: Source, K: Sink>(
         Err(status) => return status,
     };
     well_formed_is_placed();
-    let Ok(mut replay) = Replay::make(alloc, &image, &run) else {
+    let Ok(mut debugger) = Debugger::make(alloc, &image, &run) else {
         return Status::Memory;
     };
-    answer_lines(alloc, beyond, &mut replay, source, sink)
+    answer_lines(alloc, beyond, &mut debugger, source, sink)
 }

@@ -1,5 +1,5 @@
 -- What was appended, and the lines of the frames that are left, are all lines.
-use Rattle.std.proofs.Common.{◌≡◌, ◌-◌, ◌++◌, length}
+use Rattle.std.proofs.Common.{◌≡◌, ◌-◌, ◌++◌}
 use Rattle.std.specs.Prelude.{string_bytes}
 use Rattle.xt_debug.specs.Calls.{call_lines}
 use Rattle.xt_debug.proofs.calls.push_each_call.Given as goal

@@ -3,6 +3,7 @@
 use Rattle.std.proofs.Common.{◌≡◌, take}
 use Rattle.xt_replay.specs.Shown.{replay_at}
 use Rattle.xt_command_line.specs.declared.beyond.Beyond.TheVariants.{GoesOn}
+use Rattle.xt_debug.specs.Runs.{IsOf}
 use Rattle.xt_debug.specs.Scripts.{script_outcome}
 use Rattle.xt_debug.proofs.Scripts.{split}
 use Rattle.xt_debug.proofs.running.run_script.Given as goal
@@ -14,5 +15,6 @@ invariant-loop-command l =
     record {
       text : l.out.items ≡ o.text;
       replay : l.replay ≡ replay_at r o.position;
+      kept : IsOf l.kept r.image r.run;
       whole : script_outcome l.beyond r.image r.run l.script r.position ≡ split l.beyond r.image r.run l.script r.position l.command-index;
     }

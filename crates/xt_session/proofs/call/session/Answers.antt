@@ -27,9 +27,9 @@ pub returns : goal.returns
 returns g c =
     let recording : List ℕ = c.in-Ok.recording.items in
     let same : c.deref.result.now ≡ recording = c.deref.ensures.value in
-    let same_image : c.in-Ok-make.replay.image ≡ image_in recording = ap (λ (s : ReplayState). s.image) c.in-Ok-make.ensures ∙ c.in-Ok-recording_in.ensures.image ∙ ap image_in same in
-    let same_run : c.in-Ok-make.replay.run ≡ run_in recording = ap (λ (s : ReplayState). s.run) c.in-Ok-make.ensures ∙ c.in-Ok-recording_in.ensures.run ∙ ap run_in same in
-    session_over c.args.beyond c.in-Ok-make.replay.image c.in-Ok-make.replay.run (g.S.Source.left c.args.source.now) (g.S.Source.left c.read_opening.new.source) (g.S.Source.left c.answer_lines.new.source)
+    let same_image : c.in-Ok-make.debugger.image ≡ image_in recording = ap (λ (s : ReplayState). s.image) c.in-Ok-make.ensures ∙ c.in-Ok-recording_in.ensures.image ∙ ap image_in same in
+    let same_run : c.in-Ok-make.debugger.run ≡ run_in recording = ap (λ (s : ReplayState). s.run) c.in-Ok-make.ensures ∙ c.in-Ok-recording_in.ensures.run ∙ ap run_in same in
+    session_over c.args.beyond c.in-Ok-make.debugger.image c.in-Ok-make.debugger.run (g.S.Source.left c.args.source.now) (g.S.Source.left c.read_opening.new.source) (g.S.Source.left c.answer_lines.new.source)
     (g.K.Sink.told c.args.sink.now) (g.K.Sink.told c.answer_lines.new.sink) recording (g.S.Source.faults c.args.source.now) (g.S.Source.faults c.read_opening.new.source) (g.S.Source.faults c.answer_lines.new.source)
     (g.K.Sink.faults c.args.sink.now) (g.K.Sink.faults c.answer_lines.new.sink) c.answer_lines.result same_image same_run c.in-Ok.ensures.opens (ap recording_refusal (sym same) ∙ c.in-Ok-recording_in.ensures.accepted)
     c.in-Ok.ensures.later c.answer_lines.ensures.answers
