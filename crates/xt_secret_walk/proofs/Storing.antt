@@ -10,7 +10,7 @@ use Rattle.xt_map.specs.Regions.{is_mapped, is_memory, region_of}
 use Rattle.xt_map.specs.Touching.{is_store, touches}
 use Rattle.xt_frames.specs.Breaches.{some_byte}
 use Rattle.xt_uses.specs.FirstUse.{stored_byte}
-use Rattle.xt_uses.specs.UseWalk.{mask_stored}
+use Rattle.xt_secrets.specs.SecretBytes.{mask_stored}
 use Rattle.xt_use_walk.specs.MaskedBytes.{is_byte, place, put_at}
 use Rattle.xt_use_walk.proofs.Places.{place_small, touches_nothing}
 use Rattle.xt_use_walk.proofs.Served.{touches_no_byte}

@@ -20,7 +20,7 @@ use Rattle.xt_exec.specs.TurnLaws.{IsServed}
 use Rattle.xt_uses.specs.Words.{all_bits, complement, masked}
 use Rattle.xt_uses.specs.UseLaws.{AgreeIn, KindsAgree}
 use Rattle.xt_uses.specs.UseStep.{reply_mask, unknown_bits}
-use Rattle.xt_uses.specs.UseWalk.{mask_stored}
+use Rattle.xt_secrets.specs.SecretBytes.{mask_stored}
 use Rattle.xt_uses.specs.FirstUse.{stored_byte}
 use Rattle.xt_uses.proofs.Agreeing.{agree_at}
 use Rattle.xt_secrets.specs.TurnUses.{found_used}

@@ -22,7 +22,7 @@ use Rattle.xt_exec.proofs.Shapes.{turn_shaped}
 use Rattle.xt_uses.specs.Words.{masked}
 use Rattle.xt_uses.specs.UseLaws.{AgreeIn}
 use Rattle.xt_uses.specs.UseStep.{reply_mask}
-use Rattle.xt_uses.specs.UseWalk.{mask_stored}
+use Rattle.xt_secrets.specs.SecretBytes.{mask_stored}
 use Rattle.xt_uses.specs.FirstUse.{stored_byte}
 use Rattle.xt_secrets.specs.Knowledge.{AreMasks, Knowledge, StatesAgree}
 use Rattle.xt_secrets.specs.TurnUses.{common_used, found_used, kind_used, turn_used}
