@@ -147,6 +147,23 @@ fn first_line(first: Option<Text>, second: Option<Text>) -> Option<Text>
     }
 }
 
+// The line of the first core of a run that did not end so, in the states in which the run left both.
+fn unmet_of_cores(
+    alloc: Global,
+    run: &Run,
+    code: &Constants,
+    state: &State,
+) -> Result<Option<Text>, AllocError>
+    ensures { IfOk result (λ line. line ≡ first_line
+        (unmet_of_core 0 run.now.options.turns0 run.now.trace0.stop (unmet_in_state 0 (constant_byte code.now) (state_in 0 state.now)))
+        (unmet_of_core 1 run.now.options.turns1 run.now.trace1.stop (unmet_in_state 1 (constant_byte code.now) (state_in 1 state.now)))) }
+{
+    let options = &run.options;
+    let first = unmet_of_core(alloc, 0, options.turns0, run.trace0.stop, code, state)?;
+    let second = unmet_of_core(alloc, 1, options.turns1, run.trace1.stop, code, state)?;
+    Ok(first_line(first, second))
+}
+
 /// The line of the first core of a run that had turns and did not end by `break 1, 15` with 0 in a2: that it used up its turns, or at
 /// which address another BREAK stands, or what a2 holds. The only error is running out of memory.
 ///
@@ -160,8 +177,5 @@ pub fn unmet_exit(alloc: Global, image: &Image, run: &Run) -> Result<Option<Text
     let code = Constants::make(alloc, image.segments.as_slice())?;
     let replay = at_end(alloc, image, run)?;
     let state = replay.state();
-    let options = &run.options;
-    let first = unmet_of_core(alloc, 0, options.turns0, run.trace0.stop, &code, &state)?;
-    let second = unmet_of_core(alloc, 1, options.turns1, run.trace1.stop, &code, &state)?;
-    Ok(first_line(first, second))
+    unmet_of_cores(alloc, run, &code, &state)
 }

@@ -1,4 +1,4 @@
-use Rattle.std.proofs.Common.{◌≡◌, ℕ, List, Option, ap₂, ◌∙◌}
+use Rattle.std.proofs.Common.{◌≡◌, ℕ, List, Option, IfOk, ap₂, ◌∙◌, subst}
 use Rattle.xt_map.specs.declared.segment.Segment.{Segment}
 use Rattle.xt_map.specs.Memory.{constant_byte}
 use Rattle.xt_image.specs.declared.image.Image.{Image}
@@ -21,6 +21,7 @@ returns c =
     let r = c.args.run.now in
     let code_is = c.in_ok-code.ensures ∙ c.as_slice.ensures in
     let state_is = c.state-state.ensures ∙ c.in_ok-replay.ensures in
-    let zero = c.in_ok-first.ensures ∙ core_says 0 r.options.turns0 r.trace0.stop image r c.in_ok-code.code c.state-state.result code_is state_is in
-    let one = c.in_ok-second.ensures ∙ core_says 1 r.options.turns1 r.trace1.stop image r c.in_ok-code.code c.state-state.result code_is state_is in
-    c.first_line.ensures ∙ ap₂ (λ (a b : Option (List ℕ)). first_line a b) zero one
+    let zero = core_says 0 r.options.turns0 r.trace0.stop image r c.in_ok-code.code c.state-state.result code_is state_is in
+    let one = core_says 1 r.options.turns1 r.trace1.stop image r c.in_ok-code.code c.state-state.result code_is state_is in
+    let P : Option (List ℕ) → Type 0 = λ line. IfOk c.unmet_of_cores.result (λ made. made ≡ line) in
+    subst P (ap₂ (λ (a b : Option (List ℕ)). first_line a b) zero one) c.unmet_of_cores.ensures
