@@ -1,5 +1,5 @@
 //! The commands over recordings.
-ghost use Rattle.std.specs.Prelude.{◌≡◌, ◌≢◌, IfOk, IfErr, Some};
+ghost use Rattle.std.specs.Prelude.{◌≡◌, ◌≢◌, IfOk, IfErr, Some, true, false};
 ghost use Rattle.xt_map.specs.Placing.{IsPlaced};
 ghost use Rattle.xt_core.specs.Runs.{IsRunOf};
 ghost use Rattle.xt_record.specs.Fields.{image_in};
@@ -135,7 +135,47 @@ fn filter_of(turns: Turns) -> Filter
     }
 }
 
-// Writes the lines of these turns of a run, in writes of up to 65,536 bytes.
+// Writes the lines of these turns of a run with notes on frames, in writes of up to 65,536 bytes.
+fn write_framed<K: Sink>(
+    alloc: Global,
+    turns: Turns,
+    image: &Image,
+    run: &Run,
+    sink: &mut K,
+) -> Result<(), Refused>
+    requires placed { IsPlaced image.now.segments }
+    requires run { IsRunOf image.now run.now }
+    requires frames { turns.frames ≡ true }
+    ensures { Writes result
+        (K.told sink.old) (K.told sink.new) (K.faults sink.old) (K.faults sink.new)
+        (trace_text turns image.now run.now) }
+{
+    let filter = filter_of(turns);
+    let mut lines = FrameLines::make(alloc, image, run, filter, turns.from, turns.to)?;
+    write_lines(alloc, &mut lines, sink)
+}
+
+// The same without the notes.
+fn write_plain<K: Sink>(
+    alloc: Global,
+    turns: Turns,
+    image: &Image,
+    run: &Run,
+    sink: &mut K,
+) -> Result<(), Refused>
+    requires placed { IsPlaced image.now.segments }
+    requires run { IsRunOf image.now run.now }
+    requires frames { turns.frames ≡ false }
+    ensures { Writes result
+        (K.told sink.old) (K.told sink.new) (K.faults sink.old) (K.faults sink.new)
+        (trace_text turns image.now run.now) }
+{
+    let filter = filter_of(turns);
+    let mut lines = TurnLines::filtered(alloc, image, run, filter, turns.from, turns.to)?;
+    write_lines(alloc, &mut lines, sink)
+}
+
+// The lines of these turns, as the words ask for them.
 fn write_turns<K: Sink>(
     alloc: Global,
     turns: Turns,
@@ -149,13 +189,10 @@ fn write_turns<K: Sink>(
         (K.told sink.old) (K.told sink.new) (K.faults sink.old) (K.faults sink.new)
         (trace_text turns image.now run.now) }
 {
-    let filter = filter_of(turns);
     if turns.frames {
-        let mut lines = FrameLines::make(alloc, image, run, filter, turns.from, turns.to)?;
-        return write_lines(alloc, &mut lines, sink);
+        return write_framed(alloc, turns, image, run, sink);
     }
-    let mut lines = TurnLines::filtered(alloc, image, run, filter, turns.from, turns.to)?;
-    write_lines(alloc, &mut lines, sink)
+    write_plain(alloc, turns, image, run, sink)
 }
 
 /// Writes the lines of these turns of a recorded run, in writes of up to 65,536 bytes, or ends with the

@@ -1,0 +1,9 @@
+use Rattle.std.proofs.Common.{ℕ, List, subst}
+use Rattle.xt_status.specs.Writes.{Writes}
+use Rattle.xt_tools.proofs.Lined.{traced_with_frames}
+use Rattle.xt_tools.proofs.recordings.write_framed.Goals as goal
+
+pub returns : goal.returns
+returns g c =
+    let P : List ℕ → Type 0 = λ bytes. Writes c.write_lines.result (g.K.Sink.told c.args.sink.now) (g.K.Sink.told c.write_lines.new.sink) (g.K.Sink.faults c.args.sink.now) (g.K.Sink.faults c.write_lines.new.sink) bytes in
+    subst P (traced_with_frames c.args.turns c.filter_of-filter.result c.args.image.now c.args.run.now c.in_ok-lines.lines c.requires.frames c.filter_of-filter.ensures c.in_ok-lines.ensures) c.write_lines.ensures
