@@ -1,3 +1,4 @@
 mod Refusing
 mod Working
 mod Ended
+mod Replayed

@@ -1,6 +1,9 @@
 //! The commands whose output is a function of their input.
 ghost use Rattle.std.specs.Prelude.{◌≡◌, ◌≢◌, ◌≤◌, All, length, map, string_bytes, IfOk, IfErr, Ok, Some};
+ghost use Rattle.xt_map.specs.Placing.{IsPlaced};
+ghost use Rattle.xt_core.specs.Runs.{IsRunOf};
 ghost use Rattle.xt_debug.specs.Grammar.{IsInRange};
+ghost use Rattle.xt_debug.specs.Scripts.{script_outcome};
 ghost use Rattle.xt_status.specs.Calls.{ends};
 ghost use Rattle.xt_cli.specs.Orders.{IsFit, IsFitOrder, order_of};
 ghost use Rattle.xt_cli.specs.Puts.{IsWhole, Puts, Replays, status_beyond};
@@ -8,12 +11,12 @@ ghost use Rattle.xt_cli.specs.Tools.{Answers, Finishes, IsComplete, IsMade, Make
 
 use crate::orders::{Order, order_in};
 use crate::outcomes::outcomes;
-use std::alloc::Global;
+use std::alloc::{AllocError, Global};
 use xt_command_line::{
     Beyond, Listing, OutcomeOptions, ProfileOptions, Refusal, SecretOptions, Turns,
 };
 use xt_debug::{Debugger, Printed, Script};
-use xt_image::well_formed_is_placed;
+use xt_image::{Image, well_formed_is_placed};
 use xt_io::{ReadError, Sink, Source, read_to_limit};
 use xt_map::Text;
 use xt_session::session;
@@ -22,6 +25,7 @@ use xt_tools::{
     ELF_LIMIT, TEXT_LIMIT, check, converted_file, counts, events, image_file, list, map_text,
     migrate, profile, race, secrets, trace, uses,
 };
+use xt_trace::Run;
 use xt_uses::Discipline;
 
 /// A command whose output is a function of its input.
@@ -98,6 +102,24 @@ fn limit_of(job: &Job) -> usize
     }
 }
 
+// What a script prints over a run of an image. The only error is running out of memory.
+fn replayed(
+    alloc: Global,
+    image: &Image,
+    run: &Run,
+    script: &Script,
+    beyond: Beyond,
+) -> Result<Printed, AllocError>
+    requires range { All IsInRange script.now }
+    requires run { IsRunOf image.now run.now }
+    requires placed { IsPlaced image.now.segments }
+    ensures text { IfOk result (λ printed. printed.text ≡ (script_outcome beyond image.now run.now script.now 0).text) }
+    ensures beyond { IfOk result (λ printed. printed.beyond ≡ (script_outcome beyond image.now run.now script.now 0).beyond) }
+{
+    let mut debugger = Debugger::make(alloc, image, run)?;
+    debugger.run(alloc, script, beyond)
+}
+
 // What a script prints over a recording, or the status of the recording's first fault.
 #[tactic(auto, unfolding(crate::specs::Tools::replay_output, crate::specs::Tools::ends_beyond))]
 fn replay(alloc: Global, script: &Script, beyond: Beyond, input: &[u8]) -> Result<Printed, Status>
@@ -108,12 +130,10 @@ fn replay(alloc: Global, script: &Script, beyond: Beyond, input: &[u8]) -> Resul
 {
     let (image, run) = recording_in(alloc, input)?;
     well_formed_is_placed();
-    let Ok(mut debugger) = Debugger::make(alloc, &image, &run) else {
-        return Err(Status::Memory);
-    };
-    debugger
-        .run(alloc, script, beyond)
-        .map_err(|_| Status::Memory)
+    match replayed(alloc, &image, &run, script, beyond) {
+        Ok(printed) => Ok(printed),
+        Err(_) => Err(Status::Memory),
+    }
 }
 
 // What a command writes for an input, or the status with which it refuses it. Its whole text is made.
