@@ -17,6 +17,7 @@ Parts = tuple[str, Sequence[stack.Told], str, Sequence[str]]  # text, calls, las
 TOP = os.path.dirname(os.path.dirname(os.path.realpath(__file__)))
 LIBRARY = os.path.join(TOP, "examples/c/")
 MOST_TEXTS = 8  # of those that other orders send
+LONGEST = 200  # characters of an order that stands in a line
 # What a step does that is a breach of this kind.
 BREACHES = {
     "Unset": "uses a value that its function never set",
@@ -312,19 +313,96 @@ def race(it: Object) -> list[str]:
     for side in it["sides"]:
         lines.append("        step %d of core %d" % (side["step"], side["core"]))
         lines += stack.shown(side["calls"], effect_of(side))
-    return lines + (orders(it["orders"]) if it["orders"] else [])
+    return lines
+
+
+def sent_text(found: Object) -> str:
+    """The end of a text that is sent."""
+    return json.dumps(bytes.fromhex(found["hex"])[-38:].decode(errors="replace")) if found["hex"] else "nothing"
+
+
+def order(options: Sequence[str]) -> str:
+    """The words that give a run this order, if they are not too long for a line."""
+    text = " ".join(options)
+    return text if len(text) <= LONGEST else "an order of %d parts, which --json prints" % (text.count(",") + 1)
+
+
+LACKS = {
+    "states": "there are more than %d states of the two cores",
+    "time": "a core reads the time",
+    "memory": "there was too little memory",
+}
+
+
+def listed(rows: Sequence[tuple[str, Sequence[str]]], what: str) -> list[str]:
+    """Lines with what comes out and an order that leads there."""
+    lines = ["          %-40s  %s" % (text, order(options)) for text, options in rows[:MOST_TEXTS]]
+    if len(rows) > MOST_TEXTS:
+        lines.append("          and %d other %s" % (len(rows) - MOST_TEXTS, what))
+    return lines
+
+
+def results(it: Object, which: str) -> list[str]:
+    """What is sent in these orders, and if that is the same, how the word of the race ends: a text, and lines."""
+    texts: dict[str, Sequence[str]] = {}
+    values: dict[str, Sequence[str]] = {}
+    for found in it["sent"]:
+        texts.setdefault(found["hex"], found["options"])
+        if found["value"] is not None:
+            values.setdefault("%08X" % found["value"], found["options"])
+    if not texts:
+        return ["in none of them both cores end"]
+    if len(texts) > 1:
+        rows = [(sent_text({"hex": text}), options) for text, options in texts.items()]
+        return ["%s it sends one of %d texts" % (which, len(texts)), *listed(rows, "texts")]
+    one = "%s it sends %s" % (which, sent_text(it["sent"][0]))
+    if len(values) < 2:
+        return [one]
+    head = "%s, and %s ends with one of %d values" % (one, named(it["word"]), len(values))
+    return [head, *listed(list(values.items()), "values")]
 
 
 def orders(it: Object) -> list[str]:
-    """What the program sends in other orders of the two cores' turns."""
-    if len(it["sent"]) < 2:
-        return ["        %d orders were tried, and all send the same" % it["tried"]]
-    lines = ["        in %d orders that were tried it sends:" % it["tried"]]
-    for found in it["sent"][:MOST_TEXTS]:
-        text = json.dumps(bytes.fromhex(found["hex"])[-38:].decode(errors="replace"))
-        lines.append("          %-40s  %s" % (text, " ".join(found["options"])))
-    if len(it["sent"]) > MOST_TEXTS:
-        lines.append("          and %d other texts" % (len(it["sent"]) - MOST_TEXTS))
+    """What other orders of the two cores' turns lead to."""
+    if it["answer"] == "all":
+        text, *lines = results(it, "in each")
+        lines = finding("orders", "all were looked at: " + text) + lines
+        lines.append("        " + (
+            "after %s the cores can never both end" % order(it["stuck"]) if it["stuck"] else
+            "nothing is stuck: at each point of each order both cores can still end"))
+    else:
+        lack = LACKS[it["lack"]]
+        head = "not all were looked at: " + (lack % it["states"] if "%d" in lack else lack)
+        lines = finding("orders", head)
+        if it["tried"] is not None:
+            text, *more = results(it, "in %d that were tried" % it["tried"])
+            lines += ["        " + text] + more
+    if it["unended"]:
+        lines.append("        with %s a core does not end in its turns" % order(it["unended"]))
+    return lines + race_of_orders(it) + frames_of_orders(it)
+
+
+def race_of_orders(it: Object) -> list[str]:
+    """The race of another order, if this run has none."""
+    if it["race"] is None:
+        return ["        no order leads to a race"] if it["answer"] == "all" and it["word"] is None else []
+    parts = ["%s by core %d at %s" % (SIDES[side["access"].kind], side["core"], where(side["place"]))
+             for side in it["race"]["sides"]]
+    return ["        after %s a race comes next: %s, at %s" % (
+        order(it["race"]["options"]), " and ".join(parts), named(it["race"]))]
+
+
+def frames_of_orders(it: Object) -> list[str]:
+    """Whether other orders keep the rules of the stack."""
+    if it["frames"] == "whole":
+        return ["        each order keeps the rules of the stack"]
+    lines = []
+    for found in it["breaches"][:MOST_TEXTS]:
+        place = ", in " + where(found["place"]) if found["place"] else ""
+        lines.append("        with %s a step of core %d %s (%s)%s" % (
+            order(found["options"]), found["core"], BREACHES.get(found["breach"], "breaks a rule"), found["breach"], place))
+    if it["frames"] == "unknown" and it["answer"] == "all":
+        lines.append("        it is not known whether each order keeps the rules of the stack")
     return lines
 
 
@@ -346,7 +424,7 @@ def interrupts(it: Object) -> list[str]:
 
 
 BY_KIND = {
-    "stack": verdict, "uses": verdict, "secret": secret, "race": race, "interrupts": interrupts,
+    "stack": verdict, "uses": verdict, "secret": secret, "race": race, "orders": orders, "interrupts": interrupts,
 }
 
 

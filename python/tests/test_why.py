@@ -20,7 +20,8 @@ def why(*words: str) -> tuple[int, str]:
     done = subprocess.run(
         [sys.executable, str(TOP / "bin/why"), *words], env=environment, capture_output=True,
         text=True, check=False)
-    assert not done.stderr, done.stderr
+    said = [it for it in done.stderr.splitlines() if not it.startswith("bin/why: looking at ")]
+    assert not said, said
     return done.returncode, done.stdout
 
 
@@ -53,19 +54,81 @@ class Findings(unittest.TestCase):
         self.assertEqual(race, {"kind": "race", "answer": "none", "finding": False})
 
     def test_race(self) -> None:
-        """examples/lost.s: each core loads the word at 3FFB0000 and stores it again."""
+        """examples/lost.s: each core loads the word at 3FFB0000 and stores it again, so 1 or 2 is left
+        there. docs/OUTCOMES.md has both orders."""
         with tempfile.TemporaryDirectory() as folder:
             path = Path(folder) / "lost.img"
             path.write_bytes(image("lost.s"))
             code, found = findings(str(path))
             lines = why(str(path))[1]
-        race = found[-1]
+        race, orders = found[-2:]
         self.assertEqual((code, race["answer"], race["address"]), (1, "race", 0x3FFB0000))
         first, second = race["sides"]
         self.assertEqual({first["core"], second["core"]}, {0, 1})
         self.assertIn("store", (first["access"]["kind"], second["access"]["kind"]))
-        self.assertEqual([it["hex"] for it in race["orders"]["sent"]], [""])
+        self.assertEqual([orders[it] for it in ("kind", "answer", "stuck", "race")], ["orders", "all", None, None])
+        self.assertEqual(orders["sent"], [
+            {"hex": "", "value": 1, "options": ["--order", "0*3,1*3,0*2,1*2"]},
+            {"hex": "", "value": 2, "options": ["--order", "0*5,1*5"]}])
         self.assertIn("nothing orders them: 3FFB0000\n", lines)
+        self.assertIn("all were looked at: in each it sends nothing, and 3FFB0000 ends with one of 2 values\n", lines)
+
+    def test_stuck(self) -> None:
+        """examples/crossed.s: with seed 1 both cores end, but in another order each waits for the lock that
+        the other has. docs/OUTCOMES.md says that it has one outcome, and is stuck after this order."""
+        with tempfile.TemporaryDirectory() as folder:
+            path = Path(folder) / "crossed.img"
+            path.write_bytes(image("crossed.s"))
+            code, found = findings(str(path), "--entry1", "0x400D0028")
+        ends, orders = found[:2], found[-1]
+        self.assertEqual((code, [it["finding"] for it in ends]), (1, [False, False]))
+        self.assertEqual([orders[it] for it in ("answer", "finding", "stuck")], ["all", True, ["--order", "0*9,1*8"]])
+        self.assertEqual((len(orders["sent"]), orders["race"], orders["breaches"]), (1, None, []))
+
+    def test_other_race(self) -> None:
+        """Core 1 stores into the word only if core 0 has raised the flag before, so with seed 3 there is no race."""
+        text = b"""
+            .seg 0x3FFB0000
+            flag:   .word 0
+            word:   .word 0
+            .seg 0x400D0000
+            .entry main
+            .literal_position
+            main:   l32r a2, =flag
+                    movi a3, 1
+                    movi a4, 20
+            more:   addi a4, a4, -1
+                    bnez a4, more
+                    s32ri a3, a2, 0
+                    s32i a3, a2, 4
+                    break 1, 15
+            .align 4
+            .literal_position
+            one:    l32r a2, =flag
+                    l32ai a3, a2, 0
+                    beqz a3, out
+                    s32i a3, a2, 4
+            out:    break 1, 15
+            """
+        with tempfile.TemporaryDirectory() as folder:
+            path = Path(folder) / "flag.img"
+            path.write_bytes(program().asm(text))
+            places = {it.split()[1]: int(it.split()[0], 16) for it in program().call(["map"], text).decode().splitlines()}
+            code, found = findings(str(path), "--entry1", "0x%08X" % places["one"], "--seed", "3")
+        self.assertEqual((code, found[-2]["kind"], found[-2]["answer"]), (1, "race", "none"))
+        orders = found[-1]
+        self.assertEqual((orders["answer"], orders["finding"], orders["word"]), ("all", True, None))
+        race = orders["race"]
+        self.assertEqual(race["address"], places["word"])
+        self.assertEqual([(it["core"], it["access"]["kind"]) for it in race["sides"]], [(0, "store"), (1, "store")])
+
+    def test_one_core(self) -> None:
+        """Nothing is said of orders where only one core has turns, or where the order is given."""
+        with tempfile.TemporaryDirectory() as folder:
+            path = Path(folder) / "lost.img"
+            path.write_bytes(image("lost.s"))
+            for words in (["--turns1", "0"], ["--order", "0*5,1*5"]):
+                self.assertNotIn("orders", [it["kind"] for it in findings(str(path), *words)[1]])
 
     def test_goes_on(self) -> None:
         """A core that jumps to itself has the same state again."""

@@ -50,6 +50,11 @@ class Program:
     def __init__(self, path: str | None = None) -> None:
         self.path = path or which()
 
+    @property
+    def is_unproved(self) -> bool:
+        """Whether it is one that bin/unproved compiled without proofs, which is some hundred times slower."""
+        return Path(self.path).parent.name == ".unproved"
+
     def call(self, words: Sequence[str], data: Data = b"", good: Sequence[int] = (0,)) -> bytes:
         """What a command prints over its input: bytes, or a file. Ends with an error of `errors`
         if its exit code is none of the good ones."""
