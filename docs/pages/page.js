@@ -309,7 +309,7 @@ function follow(run, core) {
 }
 
 const SIGNS = {
-    breach: ['\u2716', 'the breach'], uses: ['\u2717', 'what `uses` names'], secret: ['\u2691', 'the first step that uses a secret'], over: ['\u25BC', 'window overflow'], under: ['\u25B2', 'window underflow'],
+    breach: ['\u2716', 'the breach'], uses: ['\u2717', 'what `uses` names'], secret: ['\u2605', 'the first step that uses a secret'], over: ['\u25BC', 'window overflow'], under: ['\u25B2', 'window underflow'],
     exc: ['\u25C6', 'exception'], int: ['\u26A1\uFE0E', 'interrupt'], shared: ['\u25CF', 'access to a word that the other core came to last'],
 };
 
