@@ -375,7 +375,8 @@ def orders(it: Object) -> list[str]:
         head = "not all were looked at: " + (lack % it["states"] if "%d" in lack else lack)
         lines = finding("orders", head)
         if it["tried"] is not None:
-            text, *more = results(it, "in %d that were tried" % it["tried"])
+            before = "in those and " if it["frames"] else ""
+            text, *more = results(it, before + "in %d that were run" % it["tried"])
             lines += ["        " + text] + more
     if it["unended"]:
         lines.append("        with %s a core does not end in its turns" % order(it["unended"]))
@@ -397,7 +398,7 @@ def frames_of_orders(it: Object) -> list[str]:
     if it["frames"] == "whole":
         return ["        each order keeps the rules of the stack"]
     lines = []
-    for found in it["breaches"][:MOST_TEXTS]:
+    for found in [found for found in it["breaches"] if found["finding"]][:MOST_TEXTS]:
         place = ", in " + where(found["place"]) if found["place"] else ""
         lines.append("        with %s a step of core %d %s (%s)%s" % (
             order(found["options"]), found["core"], BREACHES.get(found["breach"], "breaks a rule"), found["breach"], place))
