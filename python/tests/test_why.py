@@ -11,6 +11,7 @@ import unittest
 from pathlib import Path
 
 from support import TOP, image, program
+import xt
 from xt.lines import Object
 
 
@@ -121,6 +122,18 @@ class Findings(unittest.TestCase):
         race = orders["race"]
         self.assertEqual(race["address"], places["word"])
         self.assertEqual([(it["core"], it["access"]["kind"]) for it in race["sides"]], [(0, "store"), (1, "store")])
+
+    def test_some(self) -> None:
+        """examples/race.s has too many states, so some orders are run. With seed 1 it sends what `run` says."""
+        with tempfile.TemporaryDirectory() as folder:
+            path = Path(folder) / "race.img"
+            path.write_bytes(image("race.s"))
+            orders = findings(str(path))[1][-1]
+            sent = {it["hex"] for it in orders["sent"]}
+            reports = [program().call(["run", "--seed", str(seed)], path) for seed in (1, 2, 3, 4)]
+        self.assertEqual([orders[it] for it in ("kind", "answer", "lack")], ["orders", "some", "states"])
+        self.assertGreaterEqual(orders["tried"], 4)
+        self.assertEqual({xt.Report.parse(it).sent.hex() for it in reports} - sent, set())
 
     def test_one_core(self) -> None:
         """Nothing is said of orders where only one core has turns, or where the order is given."""
