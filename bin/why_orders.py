@@ -9,7 +9,7 @@ import xt
 from xt.errors import UsageError, XtError
 from xt.report import kind
 
-STATES = 200000  # how many states `outcomes` keeps at most
+STATES, QUIET = 200000, 20000  # how many states `outcomes` keeps at most: after a race, and without one
 SEEDS, CLOSE = 12, 4  # seeds, and accesses of a core, that are tried
 # The same of the program that is not proved, which takes some hundred times as long.
 FEW_STATES, FEW_SEEDS = 2000, 4
@@ -34,7 +34,7 @@ class Orders:
 
     def found(self):
         """The finding."""
-        states = FEW_STATES if self.is_slow else STATES
+        states = FEW_STATES if self.is_slow else STATES if self.word is not None else QUIET
         if self.is_slow:
             print("bin/why: looking at orders of the two cores, with at most %d states, by the program that is not proved"
                   % states, file=sys.stderr)
@@ -115,7 +115,8 @@ class Orders:
         it["tried"] = 0
         for options, report in zip(tried, reports):
             if any(stop.stop == "turns" and stop.turns for stop in report.stops):
-                it["unended"] = it["unended"] or options
+                # A close order lets a core wait for one that gets no turn meanwhile, which says nothing.
+                it["unended"] = it["unended"] or (options if "--seed" in options else None)
                 continue
             it["tried"] += 1
             value = report.memory[self.word][0]
