@@ -40,9 +40,6 @@ pub record Knows (names : Name → Bool) (entry : Bool) (segments : ℕ) (before
   pub entry_is : entry ≡ has_entry before
   pub segments_are : segments ≡ segments_in before
 
-pub knows_none : (names : Name → Bool) → ((q : Name) → names q ≡ false) → Knows names false 0 []
-knows_none names none = record { names_are = none; entry_is = refl; segments_are = refl }
-
 pub few_segments : (names : Name → Bool) (entry : Bool) (segments k : ℕ) (lines : List Line) → Knows names entry segments (take k lines) → k ≤ length lines → length lines < 2 ^ 32 → segments < 2 ^ 32
 few_segments names entry segments k lines knows le few = omega (arith, knows.segments_are, count_by-le-length (λ (l : Line). is_segment l.statement) (take k lines), length-take-le k lines le)
 

@@ -315,23 +315,49 @@ fn note_literal<'a>(names: &mut BTreeSet<&'a [u8]>, line: &'a Line) -> Result<()
 }
 
 /// One line more.
-fn note<'a>(mut before: Before<'a>, line: &'a Line) -> Result<Before<'a>, AllocError>
-    requires { before.segments < 2 ^ 32 }
-    ensures names { IfOk result (λ after. (q : Name) → has_name after.names q
-        ≡ ((has_name before.entry.names q || list_any (λ (p : Placed). bytes_eq p.name q) (label_name line.now.label)) || list_any (λ (p : Placed). bytes_eq p.name q) (literal_name line.now.statement))) }
-    ensures entry { IfOk result (λ after. after.has_entry ≡ (before.entry.has_entry || is_entry line.now.statement)) }
-    ensures segments { IfOk result (λ after. after.segments ≡ before.entry.segments + (if is_segment line.now.statement then 1 else 0)) }
+fn note<'a>(before: &mut Before<'a>, line: &'a Line) -> Result<(), AllocError>
+    requires { before.old.segments < 2 ^ 32 }
+    ensures names { OnOk result ((q : Name) → has_name before.new.names q
+        ≡ ((has_name before.old.names q || list_any (λ (p : Placed). bytes_eq p.name q) (label_name line.now.label)) || list_any (λ (p : Placed). bytes_eq p.name q) (literal_name line.now.statement))) }
+    ensures entry { OnOk result (before.new.has_entry ≡ (before.old.has_entry || is_entry line.now.statement)) }
+    ensures segments { OnOk result (before.new.segments ≡ before.old.segments + (if is_segment line.now.statement then 1 else 0)) }
 {
     note_label(&mut before.names, line)?;
     note_literal(&mut before.names, line)?;
-    Ok(Before {
-        names: before.names,
-        has_entry: before.has_entry || is_entry(&line.statement),
-        segments: match line.statement {
-            Statement::Seg(_) => before.segments + 1,
-            _ => before.segments,
-        },
-    })
+    before.has_entry = before.has_entry || is_entry(&line.statement);
+    before.segments = match line.statement {
+        Statement::Seg(_) => before.segments + 1,
+        _ => before.segments,
+    };
+    Ok(())
+}
+
+/// The first fault of lines before which nothing is defined.
+fn first_fault<'a>(
+    before: &mut Before<'a>,
+    lines: &'a [Line],
+    words: &[PoolWord],
+    pools: &[u64],
+    walk: &Walk,
+) -> Result<Option<AsmPlace>, AllocError>
+    requires text { IsText lines.now words.now }
+    requires pools { ArePools words.now (length lines.now) pools.now }
+    requires walk { IsWalk lines.now words.now walk.now.spots.items walk.now.spans.items }
+    requires no_names { (q : Name) → has_name before.old.names q ≡ false }
+    requires no_entry { before.old.has_entry ≡ false }
+    requires no_segments { before.old.segments ≡ 0 }
+    ensures { IfOk result (λ fault. fault ≡ layout_fault lines.now) }
+{
+    let spots = walk.spots.as_slice();
+    let spans = walk.spans.as_slice();
+    for (k, line) in lines.iter().enumerate() {
+        let last = ends_segment(line, &lines[k + 1..]);
+        if let Some(place) = line_fault(&*before, spans, pools[k], spots[k], line, last) {
+            return Ok(Some(place));
+        }
+        note(before, line)?;
+    }
+    Ok(None)
 }
 
 /// The first fault that the layout shows.
@@ -347,19 +373,10 @@ pub(crate) fn fault_of(
     requires walk { IsWalk lines.now words.now walk.now.spots.items walk.now.spans.items }
     ensures { IfOk result (λ fault. fault ≡ layout_fault lines.now) }
 {
-    let spots = walk.spots.as_slice();
-    let spans = walk.spans.as_slice();
     let mut before = Before {
         names: BTreeSet::new(alloc),
         has_entry: false,
         segments: 0,
     };
-    for (k, line) in lines.iter().enumerate() {
-        let last = ends_segment(line, &lines[k + 1..]);
-        if let Some(place) = line_fault(&before, spans, pools[k], spots[k], line, last) {
-            return Ok(Some(place));
-        }
-        before = note(before, line)?;
-    }
-    Ok(None)
+    first_fault(&mut before, lines, words, pools, walk)
 }

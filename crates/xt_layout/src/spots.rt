@@ -55,6 +55,30 @@ fn close_before(
     Ok(())
 }
 
+/// Adds where each line stands, and the segments, to none.
+fn walk_lines(
+    spots: &mut Vec<Option<Spot>>,
+    spans: &mut Vec<Span>,
+    lines: &[Line],
+    words: &[PoolWord],
+    pools: &[u64],
+) -> Result<(), AllocError>
+    requires text { IsText lines.now words.now }
+    requires pools { ArePools words.now (length lines.now) pools.now }
+    requires no_spots { spots.old.items ≡ [] }
+    requires no_spans { spans.old.items ≡ [] }
+    ensures { OnOk result (IsWalk lines.now words.now spots.new.items spans.new.items) }
+{
+    let mut here = None;
+    for (k, line) in lines.iter().enumerate() {
+        close_before(spans, here, &line.statement)?;
+        spots.push(begins(here, &line.statement))?;
+        here = passes(pools[k], here, &line.statement);
+    }
+    close(spans, here)?;
+    Ok(())
+}
+
 /// Where the lines stand, and the segments.
 pub(crate) fn walk_of(
     alloc: Global,
@@ -68,12 +92,6 @@ pub(crate) fn walk_of(
 {
     let mut spots = Vec::new(alloc);
     let mut spans = Vec::new(alloc);
-    let mut here = None;
-    for (k, line) in lines.iter().enumerate() {
-        close_before(&mut spans, here, &line.statement)?;
-        spots.push(begins(here, &line.statement))?;
-        here = passes(pools[k], here, &line.statement);
-    }
-    close(&mut spans, here)?;
+    walk_lines(&mut spots, &mut spans, lines, words, pools)?;
     Ok(Walk { spots, spans })
 }

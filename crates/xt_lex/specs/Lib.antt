@@ -1,4 +1,5 @@
 pub mod TextBytes
+pub mod Runs
 pub mod Fronts
 pub mod Tokens
 pub mod Labels

@@ -1,7 +1,7 @@
 ghost use Rattle.std.specs.Prelude.{◌≡◌, ◌^◌, ◌<◌, ◌≤◌, nat_lt, length, if◌then◌else◌, Some, None, IfOk, IfSome, IsTrue};
 ghost use Rattle.std.specs.List.{prefix_len};
-ghost use Rattle.std.specs.Char.{is_ascii_digit, is_ascii_hexdigit};
-ghost use Rattle.xt_lex.specs.TextBytes.{is_word_start, is_word_byte, is_printable, is_plain, escaped_byte, digit_of, number_of};
+ghost use Rattle.xt_lex.specs.TextBytes.{is_word_start, is_plain, escaped_byte, digit_of, number_of};
+ghost use Rattle.xt_lex.specs.Runs.{is_of};
 ghost use Rattle.std.specs.Option.{option_map};
 ghost use Rattle.xt_lex.specs.Fronts.{begins_with_quote, string_piece, string_body};
 
@@ -14,11 +14,37 @@ pub fn begins_word(byte: u8) -> bool
     byte.is_ascii_alphabetic() || byte == b'_' || byte == b'.' || byte == b'$'
 }
 
-/// Whether a word goes on with this byte.
-pub fn continues_word(byte: u8) -> bool
-    ensures { result ≡ is_word_byte byte }
+/// The bytes of which a run is made.
+#[derive(Clone, Copy)]
+pub enum Run {
+    /// Those with which a word goes on.
+    Word,
+    /// Decimal digits.
+    Decimal,
+    /// Hexadecimal digits.
+    Hexadecimal,
+    /// All but the one that ends a line.
+    Line,
+}
+
+// Whether a byte is one of a run's.
+fn is_of(run: Run, byte: u8) -> bool
+    ensures { result ≡ is_of run byte }
 {
-    begins_word(byte) || byte.is_ascii_digit()
+    match run {
+        Run::Word => begins_word(byte) || byte.is_ascii_digit(),
+        Run::Decimal => byte.is_ascii_digit(),
+        Run::Hexadecimal => byte.is_ascii_hexdigit(),
+        Run::Line => byte != b'\n',
+    }
+}
+
+/// How many bytes of a run stand at the front.
+pub fn width_of(run: Run, bytes: &[u8]) -> usize
+    ensures width { result ≡ prefix_len (is_of run) bytes.now }
+    ensures within { result ≤ length bytes.now }
+{
+    bytes.iter().take_while(|byte| is_of(run, **byte)).count()
 }
 
 /// Whether a byte stands for itself between such quotes.
@@ -41,39 +67,6 @@ pub fn unescaped(byte: u8) -> Option<u8>
         b'"' => Some(b'"'),
         _ => None,
     }
-}
-
-/// How many bytes of a word stand at the front.
-pub fn word_width(bytes: &[u8]) -> usize
-    ensures width { result ≡ prefix_len is_word_byte bytes.now }
-    ensures within { result ≤ length bytes.now }
-{
-    bytes
-        .iter()
-        .take_while(|byte| continues_word(**byte))
-        .count()
-}
-
-/// How many decimal digits stand at the front.
-pub fn decimal_width(bytes: &[u8]) -> usize
-    ensures width { result ≡ prefix_len is_ascii_digit bytes.now }
-    ensures within { result ≤ length bytes.now }
-{
-    bytes
-        .iter()
-        .take_while(|byte| byte.is_ascii_digit())
-        .count()
-}
-
-/// How many hexadecimal digits stand at the front.
-pub fn hex_width(bytes: &[u8]) -> usize
-    ensures width { result ≡ prefix_len is_ascii_hexdigit bytes.now }
-    ensures within { result ≤ length bytes.now }
-{
-    bytes
-        .iter()
-        .take_while(|byte| byte.is_ascii_hexdigit())
-        .count()
 }
 
 // The value of a digit.
@@ -114,10 +107,13 @@ fn string_piece(bytes: &[u8]) -> Option<(u8, usize)>
     ensures forward { IfSome result (λ p. 0 < p.1) }
     ensures within { IfSome result (λ p. p.1 ≤ length bytes.now) }
 {
-    match bytes {
-        [b'"', ..] => None,
-        [b'\\', escape, ..] => Some((unescaped(*escape)?, 2)),
-        [byte, _, ..] if stands_for_itself(b'"', *byte) => Some((*byte, 1)),
+    let [first, escape, ..] = bytes else {
+        return None;
+    };
+    match *first {
+        b'"' => None,
+        b'\\' => Some((unescaped(*escape)?, 2)),
+        byte if stands_for_itself(b'"', byte) => Some((byte, 1)),
         _ => None,
     }
 }

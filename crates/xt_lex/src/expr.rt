@@ -82,14 +82,6 @@ impl Expr {
     {
         self.items.len()
     }
-
-    /// The terms as a `Vec`, without a copy.
-    pub fn into_vec(self) -> Vec<Term>
-        ensures { result.items ≡ self }
-    {
-        let Expr { items } = self;
-        items
-    }
 }
 
 impl Clone for Expr {

@@ -19,7 +19,7 @@ pub struct AsmPlace {
 }
 
 /// Why an assembly text gives no image.
-#[derive(Clone, Copy, Debug, PartialEq, Eq, Error)]
+#[derive(Clone, Copy, Debug, Error)]
 pub enum AsmFault {
     /// The text has this fault.
     #[error("line {}, column {}: fault of kind {}", .0.line, .0.column, .0.kind)]

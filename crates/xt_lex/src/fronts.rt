@@ -2,9 +2,7 @@ ghost use Rattle.std.specs.Prelude.{◌≡◌, IfOk};
 ghost use Rattle.xt_lex.specs.TextBytes.{number_of};
 ghost use Rattle.xt_lex.specs.Fronts.{number_kind, number_kind_of, word_front, decimal_front, hex_front, longer, character_front, string_front, mark_front, token_at};
 
-use crate::bytes::{
-    begins_word, decimal_width, hex_width, number_in, stands_for_itself, string_rest, word_width,
-};
+use crate::bytes::{Run, begins_word, number_in, stands_for_itself, string_rest, width_of};
 use crate::name::Name;
 use crate::token::TokenKind;
 use std::alloc::{AllocError, Global};
@@ -18,7 +16,7 @@ fn word(alloc: Global, bytes: &[u8]) -> Result<Front, AllocError>
 {
     match bytes {
         [first, ..] if begins_word(*first) => {
-            let width = word_width(bytes);
+            let width = width_of(Run::Word, bytes);
             let held = Vec::from_slice(alloc, bytes.split_at(width).0)?;
             Ok(Some((TokenKind::Word(Name::new(held)), width)))
         }
@@ -39,7 +37,7 @@ fn kind_of_number(number: Option<u32>) -> TokenKind
 fn decimal(bytes: &[u8]) -> Front
     ensures { result ≡ decimal_front bytes.now }
 {
-    let width = decimal_width(bytes);
+    let width = width_of(Run::Decimal, bytes);
     if width == 0 {
         return None;
     }
@@ -53,7 +51,7 @@ fn hex(bytes: &[u8]) -> Front
 {
     match bytes {
         [b'0', b'x', digits @ ..] => {
-            let width = hex_width(digits);
+            let width = width_of(Run::Hexadecimal, digits);
             if width == 0 {
                 return None;
             }

@@ -1,8 +1,8 @@
-ghost use Rattle.std.specs.Prelude.{◌≡◌, ◌<◌, ◌≤◌, ◌++◌, ◌∷◌, ◌==◌, not, length, take, drop, IfOk, OnOk};
-ghost use Rattle.std.specs.List.{prefix_len};
+ghost use Rattle.std.specs.Prelude.{◌≡◌, ◌<◌, ◌≤◌, ◌++◌, ◌∷◌, length, take, drop, IfOk, OnOk};
 ghost use Rattle.xt_lex.specs.Fronts.{token_at};
 ghost use Rattle.xt_lex.specs.Tokens.{starts_blank, starts_comment, valid, line_tokens, lines_of, tokens_of, IsLexed};
 
+use crate::bytes::{Run, width_of};
 use crate::fronts::front;
 use crate::token::{Token, TokenKind, Tokens};
 use std::alloc::{AllocError, Global};
@@ -84,14 +84,6 @@ fn lex_line(
     Ok(())
 }
 
-// How many bytes stand before the first 0A, or before the end of the text where there is none.
-fn bytes_before_end(text: &[u8]) -> usize
-    ensures before { result ≡ prefix_len (λ b. not (b == 10)) text.now }
-    ensures within { result ≤ length text.now }
-{
-    text.iter().take_while(|byte| **byte != b'\n').count()
-}
-
 // How many bytes the first line of a text has, with its end.
 fn line_width(text: &[u8]) -> usize
     requires { 0 < length text.now }
@@ -99,7 +91,7 @@ fn line_width(text: &[u8]) -> usize
     ensures forward { 0 < result }
     ensures within { result ≤ length text.now }
 {
-    let before = bytes_before_end(text);
+    let before = width_of(Run::Line, text);
     if before < text.len() {
         before + 1
     } else {

@@ -46,13 +46,6 @@ impl Name {
         self.as_slice().len()
     }
 
-    /// Whether there is no byte.
-    pub fn is_empty(&self) -> bool
-        ensures { result ≡ (length self.now == 0) }
-    {
-        self.items.is_empty()
-    }
-
     /// The bytes as a `Vec`, without a copy.
     pub fn into_vec(self) -> Vec<u8>
         ensures { result.items ≡ self }

@@ -41,7 +41,7 @@ fn the_first_label_of_a_name_is_found(rt: HostRuntime) -> Result<(), Fail> {
         })?;
     }
     let labels = Labels::make(rt.alloc(), items)?;
-    assert_eq!(rt; labels.len(), 4);
+    assert_eq!(rt; labels.as_slice().len(), 4);
     let wanted: [(&'static str, Option<i64>); 5] = [
         ("a", Some(16)),
         ("b", Some(1099511627775)),

@@ -161,7 +161,7 @@ fn has_tokens(alloc: Global, row: &Row) -> Result<bool, Fail> {
         return Ok(false);
     }
     let tokens = lex(alloc, text)?;
-    if tokens.len() != wanted.len() {
+    if tokens.as_slice().len() != wanted.len() {
         return Ok(false);
     }
     for (token, one) in tokens.as_slice().iter().zip(wanted) {

@@ -1,9 +1,9 @@
 use Rattle.std.proofs.Common.{ℕ, ◌<◌, ◌^◌, sym, subst}
 use Rattle.xt_layout.proofs.Walking.{near_fits, pool_fits, walks_none, walks_all, walks_more}
-use Rattle.xt_layout.proofs.spots.walk_of.Goals as goal
+use Rattle.xt_layout.proofs.spots.walk_lines.Goals as goal
 
 pub loop-k-init : goal.loop-k-init
-loop-k-init c = walks_none c.args.lines.now c.args.words.now c.new-spots.result.items c.new-spans.result.items c.requires.text c.new-spots.ensures.items c.new-spans.ensures.items
+loop-k-init c = walks_none c.args.lines.now c.args.words.now c.args.spots.now.items c.args.spans.now.items c.requires.text c.requires.no_spots c.requires.no_spans
 
 pub close_before-requires : goal.close_before-requires
 close_before-requires c = near_fits c.args.lines.now c.args.words.now c.loop-k.k c.loop-k.here c.requires.text c.loop-k.invariant.near

@@ -3,7 +3,7 @@ use Rattle.xt_layout.specs.Faults.{layout_fault}
 use Rattle.xt_layout.specs.Known.{has_name}
 use Rattle.xt_layout.proofs.Each.{Finds}
 use Rattle.xt_layout.proofs.Faulting.{Knows, line_faults}
-use Rattle.xt_layout.proofs.fault.fault_of.Given as goal
+use Rattle.xt_layout.proofs.fault.first_fault.Given as goal
 
 -- what the lines so far define is known, and none of them has a fault
 abbrev pub invariant-loop-k : goal.invariant-loop-k

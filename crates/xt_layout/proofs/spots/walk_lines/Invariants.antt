@@ -1,5 +1,5 @@
 use Rattle.xt_layout.specs.Bounds.{Walks}
-use Rattle.xt_layout.proofs.spots.walk_of.Given as goal
+use Rattle.xt_layout.proofs.spots.walk_lines.Given as goal
 
 -- what is known after the lines so far
 abbrev pub invariant-loop-k : goal.invariant-loop-k
