@@ -1,7 +1,10 @@
 //! The first race.
-ghost use Rattle.std.specs.Prelude.{◌≡◌, Some, IfOk};
+ghost use Rattle.std.specs.Prelude.{◌≡◌, ◌<◌, ◌≤◌, ℕ, Some, IfOk, length, slice_get};
 ghost use Rattle.xt_map.specs.Placing.{IsPlaced};
 ghost use Rattle.xt_core.specs.Runs.{IsRunOf};
+ghost use Rattle.xt_race.specs.declared.event.Event.{Event};
+ghost use Rattle.xt_race.specs.Found.{Knows};
+ghost use Rattle.xt_race.specs.KeptEntries.{events_left};
 ghost use Rattle.xt_race.specs.Races.{IsFirstRace, events_of};
 ghost use Rattle.xt_race.specs.Firsts.{IsEarlier, IsLater, IsPair, fits_in};
 
@@ -45,14 +48,13 @@ pub struct Pair {
     pub second: Event,
 }
 
-// The later entry of the first race, if there is a race.
-fn later_of(alloc: Global, image: &Image, run: &Run) -> Result<Option<Later>, AllocError>
-    requires run { IsRunOf image.now run.now }
-    requires placed { IsPlaced image.now.segments }
-    ensures { IfOk result (λ found. IsLater (events_of image.now run.now) found) }
+// The later entry of the first race of these entries, if there is a race.
+fn later_in(events: &mut Events, finder: &mut Finder) -> Result<Option<Later>, AllocError>
+    requires few { length (events_left events.old) ≤ 8000000 }
+    requires cores { (n : ℕ) (e : Event) → slice_get (events_left events.old) n ≡ Some e → e.entry.core < 2 }
+    requires knows { Knows finder.old (events_left events.old) 0 }
+    ensures { IfOk result (λ found. IsLater (events_left events.old) found) }
 {
-    let mut events = Events::open(alloc, image, run)?;
-    let mut finder = Finder::new(alloc)?;
     while let Some(event) = events.next() {
         let place = finder.count;
         let taken = finder.take(&event)?;
@@ -67,11 +69,37 @@ fn later_of(alloc: Global, image: &Image, run: &Run) -> Result<Option<Later>, Al
     Ok(None)
 }
 
+// The later entry of the first race, if there is a race.
+fn later_of(alloc: Global, image: &Image, run: &Run) -> Result<Option<Later>, AllocError>
+    requires run { IsRunOf image.now run.now }
+    requires placed { IsPlaced image.now.segments }
+    ensures { IfOk result (λ found. IsLater (events_of image.now run.now) found) }
+{
+    let mut events = Events::open(alloc, image, run)?;
+    let mut finder = Finder::new(alloc)?;
+    later_in(&mut events, &mut finder)
+}
+
 // Whether an entry at this place races with the later one.
 fn fits(later: &Later, place: u32, event: &Event) -> bool
     ensures { result ≡ fits_in later.now place (Some event.now) }
 {
     later.seen <= place && event.conflicts(&later.event)
+}
+
+// The first of these entries that races with the later one.
+fn earlier_in(events: &mut Events, later: &Later) -> Option<Earlier>
+    requires { length (events_left events.old) ≤ 8000000 }
+    ensures { IsEarlier (events_left events.old) later.now result }
+{
+    let mut place = 0;
+    while let Some(event) = events.next() {
+        if fits(later, place, &event) {
+            return Some(Earlier { place, event });
+        }
+        place += 1;
+    }
+    None
 }
 
 // The first entry that races with the later one.
@@ -86,14 +114,7 @@ fn earlier_of(
     ensures { IfOk result (λ found. IsEarlier (events_of image.now run.now) later.now found) }
 {
     let mut events = Events::open(alloc, image, run)?;
-    let mut place = 0;
-    while let Some(event) = events.next() {
-        if fits(later, place, &event) {
-            return Ok(Some(Earlier { place, event }));
-        }
-        place += 1;
-    }
-    Ok(None)
+    Ok(earlier_in(&mut events, later))
 }
 
 /// The first race of a run of an image, with its entries.

@@ -1,5 +1,5 @@
 //! What is printed of the first race.
-ghost use Rattle.std.specs.Prelude.{◌≡◌, ◌++◌, IfOk, codes};
+ghost use Rattle.std.specs.Prelude.{◌≡◌, ◌++◌, IfOk, OnOk, codes};
 ghost use Rattle.std.specs.Fmt.{decimal};
 ghost use Rattle.xt_map.specs.Placing.{IsPlaced};
 ghost use Rattle.xt_core.specs.Runs.{IsRunOf};
@@ -13,23 +13,22 @@ use xt_image::Image;
 use xt_map::Text;
 use xt_trace::{Run, line};
 
-// The trace line of an entry's record.
-fn event_line(alloc: Global, event: &Event) -> Result<Text, AllocError>
-    ensures { IfOk result (λ text. text ≡ event_line event.now) }
+// Appends the trace line of an entry's record.
+fn push_event(alloc: Global, out: &mut Vec<u8>, event: &Event) -> Result<(), AllocError>
+    ensures { OnOk result (out.new.items ≡ out.old.items ++ event_line event.now) }
 {
-    line(alloc, event.entry.core, event.turn, &event.step)
+    let text = line(alloc, event.entry.core, event.turn, &event.step)?;
+    out.extend_from_slice(text.as_slice())
 }
 
 // What is printed of a race with these entries.
 fn pair_text(alloc: Global, pair: &Pair) -> Result<Text, AllocError>
     ensures { IfOk result (λ text. text ≡ codes "race " ++ decimal pair.now.race.first ++ codes " " ++ decimal pair.now.race.second ++ codes "\n" ++ event_line pair.now.first ++ event_line pair.now.second) }
 {
-    let first = event_line(alloc, &pair.first)?;
-    let second = event_line(alloc, &pair.second)?;
     let head = format!(in alloc; "race {} {}\n", pair.race.first, pair.race.second)?;
     let mut out = head.into_bytes();
-    out.extend_from_slice(first.as_slice())?;
-    out.extend_from_slice(second.as_slice())?;
+    push_event(alloc, &mut out, &pair.first)?;
+    push_event(alloc, &mut out, &pair.second)?;
     Ok(Text::new(out))
 }
 

@@ -2,6 +2,7 @@
 use Rattle.std.proofs.Common.{◌≡◌, ℕ, Option, Some, None, List, Ok, Err, length, refl, sym, ap, ◌∙◌, subst, arith}
 use Rattle.xt_map.specs.declared.access.Access.{Access}
 use Rattle.xt_map.specs.declared.access.Entry.{Entry}
+use Rattle.xt_map.specs.declared.contents.MemoryContents.{MemoryContents}
 use Rattle.xt_map.specs.declared.segment.Segment.{Segment}
 use Rattle.xt_map.specs.Memory.{constant_byte}
 use Rattle.xt_trace.specs.declared.options.Options.{Options}
@@ -20,7 +21,7 @@ use Rattle.xt_image.specs.Findings.{first, or_else}
 use Rattle.xt_record.specs.Rules.{Finding}
 use Rattle.xt_record.specs.TurnRules.{rest_finding, walk_finding}
 use Rattle.xt_record.specs.Walking.{Arrives}
-use Rattle.xt_record.specs.Standing.{EndsAt, IsWalked, Walks, WentThrough, turn_rules}
+use Rattle.xt_record.specs.Standing.{EndsAt, HasStopped, IsWalked, Walks, WentOn, WentThrough, turn_rules}
 use Rattle.xt_record.proofs.Finals.{HasEnded, has_ended, more_one, more_zero}
 
 carried : (P : Image → Options → Type 0) (i j : Image) (o p : Options) → i ≡ j → o ≡ p → P i o → P j p
@@ -121,3 +122,22 @@ is_walked image o es w v u t x y z made is same valid h e0 e1 trace0 trace1 poin
       few_entries = ended.few_entries;
       few_points = omega (arith, ap length points, ended.few_points);
     }
+
+-- the walk of a run of the image from its options on
+
+pub went_not : (image : Image) (o : Options) (es : List Entry) (w v : Walk) (f : RecordFault) → w.image.now ≡ image → w.options ≡ o → WentOn (Err f) es w v
+    → Walks (Err f) image o es
+went_not image o es w v f is same h other =
+    carried (λ (i : Image) (p : Options). first (turn_rules i (run_with i p es)) ≡ Some f) w.image.now image w.options o is same (h other)
+
+pub went_all : (image : Image) (o : Options) (es : List Entry) (w v : Walk) (x : Unit) (made : Walked) → w.image.now ≡ image → w.options ≡ o → WentOn (Ok x) es w v
+    → made.trace0 ≡ trace_of v.core0 → made.trace1 ≡ trace_of v.core1 → made.points.items ≡ v.setting.points.items → IsWalked made image (run_with image o es)
+went_all image o es w v x made is same h trace0 trace1 points =
+    carried (λ (i : Image) (p : Options). IsWalked made i (run_with i p es)) w.image.now image w.options o is same (h.2 made trace0 trace1 points)
+
+pub stopped : (code : ℕ → ℕ) (number : ℕ) (before other after : CoreState) (m : MemoryContents) (entries : ℕ) (old new : List (List ℕ)) → Arrives code number before other after m entries None old new
+    → HasStopped after
+stopped code number before other after m entries old new h = (
+  ap (λ (k : CoreState). k.left) h.next_is.1 ∙ h.next_is.0,
+  ap (λ (k : CoreState). k.waiting) h.next_is.1 ∙ h.went.free_is,
+)

@@ -1,7 +1,7 @@
 -- Words and bytes that are written one by one.
-use Rattle.std.proofs.Common.{◌≡◌, ℕ, ◌+◌, ◌*◌, ◌/◌, ◌%◌, ◌<◌, ◌≤◌, List, [], ◌∷◌, ◌++◌, map, sym, ap, ◌∙◌, append_assoc, arith}
+use Rattle.std.proofs.Common.{◌≡◌, ℕ, ◌+◌, ◌*◌, ◌/◌, ◌%◌, ◌<◌, ◌≤◌, List, [], ◌∷◌, ◌++◌, length, map, sym, ap, ◌∙◌, append_assoc, arith}
 use Rattle.std.specs.Prelude.{slice_index}
-use Rattle.std.specs.List.{range_with_len}
+use Rattle.std.specs.List.{concat, flat_map, range_with_len}
 use Rattle.std.specs.Int.{w32, to_le_bytes}
 use Rattle.std.proofs.lemmas.List.{append-nil}
 use Rattle.std.proofs.lemmas.List.FromFn.{map-range_with_len_more}
@@ -11,7 +11,10 @@ use Rattle.xt_window.specs.Ring.{place, visible}
 use Rattle.xt_special.specs.Control.{bit_of, ps_word}
 use Rattle.xt_exec.specs.State.{State}
 use Rattle.xt_record.specs.Checkpoints.{file_bytes, last_numbers, loop_numbers, saved_numbers, special_bytes, state_bytes}
-use Rattle.xt_record.specs.Fields.{words}
+use Rattle.xt_trace.specs.declared.run.Run.{Run}
+use Rattle.xt_record.specs.Fields.{magic, words}
+use Rattle.xt_record.specs.Joined.{joined_parts}
+use Rattle.xt_record.specs.RecordingParts.{entry_bytes, options_bytes}
 
 -- a word after those of a list
 word_more : (values values' : List ℕ) (v w : ℕ) (old now new : List ℕ) → values' ≡ values ++ w ∷ [] → v ≡ w → now ≡ old ++ words values
@@ -59,6 +62,21 @@ pub state_joined : (step : ℕ) (s : State) (old l1 l2 l3 l4 l5 l6 l7 l8 : List 
     → l8 ≡ old ++ state_bytes step s
 unfolding state_bytes
 state_joined step s old l1 l2 l3 l4 l5 l6 l7 l8 e1 e2 e3 e4 e5 e6 e7 e8 =
+    let to3 = joined old _ l2 _ l3 (joined old _ l1 _ l2 e1 e2) e3 in
+    let to5 = joined old _ l4 _ l5 (joined old _ l3 _ l4 to3 e4) e5 in
+    let to7 = joined old _ l6 _ l7 (joined old _ l5 _ l6 to5 e6) e7 in joined old _ l7 _ l8 to7 e8
+
+pub recording_joined : (file : List ℕ) (r : Run) (points : List (List ℕ)) (old l1 l2 l3 l4 l5 l6 l7 l8 : List ℕ)
+    → l1 ≡ old ++ magic
+    → l2 ≡ l1 ++ words (2 ∷ length file ∷ [])
+    → l3 ≡ l2 ++ file
+    → l4 ≡ l3 ++ options_bytes r.options
+    → l5 ≡ l4 ++ words (length r.history ∷ [])
+    → l6 ≡ l5 ++ flat_map entry_bytes r.history
+    → l7 ≡ l6 ++ words (length points ∷ [])
+    → l8 ≡ l7 ++ concat points
+    → l8 ≡ old ++ joined_parts file r points
+recording_joined file r points old l1 l2 l3 l4 l5 l6 l7 l8 e1 e2 e3 e4 e5 e6 e7 e8 =
     let to3 = joined old _ l2 _ l3 (joined old _ l1 _ l2 e1 e2) e3 in
     let to5 = joined old _ l4 _ l5 (joined old _ l3 _ l4 to3 e4) e5 in
     let to7 = joined old _ l6 _ l7 (joined old _ l5 _ l6 to5 e6) e7 in joined old _ l7 _ l8 to7 e8

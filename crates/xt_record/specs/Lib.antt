@@ -9,5 +9,6 @@ pub mod Checkpoints
 pub mod TurnRules
 pub mod Format
 pub mod Written
+pub mod Joined
 pub mod Walking
 pub mod Standing

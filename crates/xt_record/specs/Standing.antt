@@ -1,7 +1,7 @@
 -- Carries a proof; nothing that a reader must believe.
 -- Both cores and memory of a run after its first entries.
-use Rattle.std.specs.Prelude.{◌≡◌, ◌≢◌, ℕ, zero, suc, ◌+◌, ◌≤◌, List, [], ◌∷◌, ◌++◌, length, take}
-use Rattle.std.specs.Prelude.{drop, Some, None, Result, Ok, Err}
+use Rattle.std.specs.Prelude.{◌≡◌, ◌≢◌, ℕ, zero, suc, ◌+◌, ◌≤◌, ◌==◌, if◌then◌else◌, List, [], ◌∷◌, ◌++◌}
+use Rattle.std.specs.Prelude.{length, take, drop, Some, None, Result, Ok, Err}
 use Rattle.xt_map.specs.declared.access.Entry.{Entry}
 use Rattle.xt_map.specs.Memory.{constant_byte}
 use Rattle.xt_bus.specs.States.{memory_state}
@@ -13,19 +13,21 @@ use Rattle.xt_trace.specs.Schedule.{cores_of, schedule_from}
 use Rattle.xt_trace.specs.Short.{ShortWorld, short_advance, short_world}
 use Rattle.xt_exec.specs.Chips.{processor}
 use Rattle.xt_exec.specs.State.{State}
-use Rattle.xt_core.specs.Cores.{CoreState}
+use Rattle.xt_core.specs.Cores.{CoreState, trace_of}
 use Rattle.xt_core.specs.Positions.{schedule_in}
 use Rattle.xt_core.specs.Runs.{IsRunOf, code_of, memory_of, opening_of}
 use Rattle.xt_record.specs.declared.fault.RecordFault.{RecordFault}
 use Rattle.xt_record.specs.declared.fault.RecordFault.TheVariants as fault
+use Rattle.xt_record.specs.declared.parts.Parts.{Parts}
 use Rattle.xt_record.specs.declared.setting.Setting.{Setting}
 use Rattle.xt_record.specs.declared.walk.Walk.{Walk}
 use Rattle.xt_record.specs.declared.walk.Walked.{Walked}
 use Rattle.xt_record.specs.Checkpoints.{checkpoints_of}
-use Rattle.xt_record.specs.Format.{run_with}
+use Rattle.xt_record.specs.Fields.{behind_image, checkpoints_in, version}
+use Rattle.xt_record.specs.Format.{recording_fault, run_with}
 use Rattle.xt_image.specs.Findings.{first}
 use Rattle.xt_record.specs.Rules.{Finding}
-use Rattle.xt_record.specs.TurnRules.{rest_finding, walk_finding}
+use Rattle.xt_record.specs.TurnRules.{first_difference, rest_finding, walk_finding}
 use Rattle.xt_record.specs.Walking.{Ends, HasRoom, Takes, beside, line_at, points_along}
 
 -- what both cores work on before the first entry
@@ -132,3 +134,23 @@ abbrev pub Walks : Result Walked RecordFault → Image → Options → List Entr
 Walks (Ok walked) image o es = IsWalked walked image (run_with image o es)
 Walks (Err e) image o es =
     e ≢ fault.Memory → first (turn_rules image (run_with image o es)) ≡ Some e
+
+-- the core has no turn left, and no access waits
+abbrev pub HasStopped : CoreState → Type 0
+HasStopped k = (k.left ≡ 0) × (k.waiting ≡ None)
+
+-- all turns are made, to these traces and checkpoints, or this is the first finding
+abbrev pub WentOn : Result Unit RecordFault → List Entry → Walk → Walk → Type 0
+WentOn (Ok _) es w v =
+    HasStopped v.core0 × HasStopped v.core1
+    × ((walked : Walked) → walked.trace0 ≡ trace_of v.core0 → walked.trace1 ≡ trace_of v.core1
+    → walked.points.items ≡ v.setting.points.items → IsWalked walked w.image.now (run_in es w))
+WentOn (Err e) es w v = Walks (Err e) w.image.now w.options es
+
+-- the run of the parts, made again, or the first rule that its turns or its checkpoints break
+abbrev pub ReadsRun : Result Walked RecordFault → Parts → List ℕ → Type 0
+ReadsRun (Ok walked) parts bytes =
+    IsWalked walked parts.image (run_with parts.image parts.options parts.entries.items)
+    × (None ≡ (if version bytes == 1 then None
+    else first_difference (checkpoints_in (behind_image bytes)) walked.points.items))
+ReadsRun (Err e) parts bytes = e ≢ fault.Memory → recording_fault bytes ≡ Some e

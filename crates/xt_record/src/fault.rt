@@ -11,7 +11,7 @@ use xt_image::ImageFault;
 /// and `Trailing` for the length of the parts; `Image`; `Options`; `Entry`; then `Turn` and
 /// `Illegal` entry by entry, and `Turn` for what follows the last entry; and `Checkpoint`. Entries
 /// and checkpoints are counted from 0.
-#[derive(Clone, Copy, Debug, PartialEq, Eq, Error)]
+#[derive(Clone, Copy, Debug, Error)]
 pub enum RecordFault {
     /// The file has fewer bytes than its head, its image and its counts ask for, or the image more
     /// than 8,388,608.

@@ -4,7 +4,8 @@ ghost use Rattle.xt_image.specs.ImageParts.{IsWellFormed};
 ghost use Rattle.xt_core.specs.Runs.{IsRunOf};
 ghost use Rattle.xt_record.specs.Fields.{behind_image, blocks, checkpoint_size, checkpoints_in, version};
 ghost use Rattle.xt_record.specs.Format.{Reads, recording_fault};
-ghost use Rattle.xt_record.specs.Heads.{HasParts};
+ghost use Rattle.xt_record.specs.Heads.{HasParts, IsParts};
+ghost use Rattle.xt_record.specs.Standing.{ReadsRun};
 ghost use Rattle.xt_record.specs.TurnRules.{first_difference};
 
 use crate::fault::RecordFault;
@@ -51,6 +52,23 @@ fn point_difference(bytes: &[u8], points: &[Bytes]) -> Option<u32>
     first_difference(&rest[end + 4..], word(rest, end), points)
 }
 
+// The run of the parts, made again, or the first rule that its turns or its checkpoints break.
+fn walked_parts(alloc: Global, bytes: &[u8], parts: &Parts) -> Result<Walked, RecordFault>
+    requires { IsParts parts.now bytes.now }
+    ensures { ReadsRun result parts.now bytes.now }
+{
+    let walked = walk_entries(
+        alloc,
+        &parts.image,
+        &parts.options,
+        parts.entries.as_slice(),
+    )?;
+    match point_difference(bytes, walked.points.as_slice()) {
+        Some(index) => Err(RecordFault::Checkpoint(index)),
+        None => Ok(walked),
+    }
+}
+
 /// The image and the run that a recording of version 1 or 2 holds, or the first rule that it
 /// breaks. `RecordFault` has the rules, in their order. The run is made again from its entries.
 ///
@@ -61,15 +79,7 @@ pub fn read_recording(alloc: Global, bytes: &[u8]) -> Result<(Image, Run), Recor
     ensures run { IfOk result (λ r. IsRunOf r.0 r.1) }
 {
     let parts = parts_in(alloc, bytes)?;
-    let walked = walk_entries(
-        alloc,
-        &parts.image,
-        &parts.options,
-        parts.entries.as_slice(),
-    )?;
-    if let Some(index) = point_difference(bytes, walked.points.as_slice()) {
-        return Err(RecordFault::Checkpoint(index));
-    }
+    let walked = walked_parts(alloc, bytes, &parts)?;
     let Parts {
         image,
         options,

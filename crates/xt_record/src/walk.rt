@@ -1,10 +1,10 @@
 //! A run that is made from its entries.
-ghost use Rattle.std.specs.Prelude.{◌≡◌, ◌<◌, ◌+◌, ◌^◌, All, List, None, IfOk};
+ghost use Rattle.std.specs.Prelude.{◌≡◌, ◌<◌, All, List, IfOk};
 ghost use Rattle.xt_map.specs.declared.access.Entry.{Entry};
 ghost use Rattle.xt_map.specs.Memory.{constant_byte};
 ghost use Rattle.xt_map.specs.Placing.{IsPlaced};
 ghost use Rattle.xt_trace.specs.Validity.{IsValid};
-ghost use Rattle.xt_record.specs.Standing.{EndsAt, IsFree, Stands, StandsOpen, TakesAt, Walks, WentThrough};
+ghost use Rattle.xt_record.specs.Standing.{IsFree, Stands, StandsOpen, TakesAt, Walks, WentOn, WentThrough};
 
 use crate::fault::RecordFault;
 use crate::file::OwnFile;
@@ -117,36 +117,32 @@ impl<'a> Walk<'a> {
         Ok(())
     }
 
-    // The turns that core 0 has left.
-    fn end0(&mut self, alloc: Global, entries: u32) -> Result<(), RecordFault>
-        requires free { self.old.core0.waiting ≡ None }
-        requires few { self.old.core0.count + self.old.core0.left + self.old.core1.count < 2 ^ 32 }
-        ensures { EndsAt result 0 self.old self.new entries }
+    // All turns of the run: those up to the last entry, and then those that each core has left.
+    fn take_turns(&mut self, alloc: Global, entries: &[Entry]) -> Result<(), RecordFault>
+        requires cores { All (λ (e : Entry). e.core < 2) entries.now }
+        requires valid { IsValid self.old.options }
+        requires stands { Stands entries.now 0 self.old }
+        ensures { WentOn result entries.now self.old self.new }
     {
+        self.take_all(alloc, entries)?;
+        let count = entries.len() as u32;
         end(
             alloc,
             0,
             &mut self.core0,
             &self.core1,
             &mut self.setting,
-            entries,
-        )
-    }
-
-    // The turns that core 1 has left.
-    fn end1(&mut self, alloc: Global, entries: u32) -> Result<(), RecordFault>
-        requires free { self.old.core1.waiting ≡ None }
-        requires few { self.old.core1.count + self.old.core1.left + self.old.core0.count < 2 ^ 32 }
-        ensures { EndsAt result 1 self.old self.new entries }
-    {
+            count,
+        )?;
         end(
             alloc,
             1,
             &mut self.core1,
             &self.core0,
             &mut self.setting,
-            entries,
-        )
+            count,
+        )?;
+        Ok(())
     }
 }
 
@@ -164,9 +160,7 @@ pub(crate) fn walk_entries(
     ensures { Walks result image.now options.now entries.now }
 {
     let mut walk = Walk::open(alloc, image, options)?;
-    walk.take_all(alloc, entries)?;
-    walk.end0(alloc, entries.len() as u32)?;
-    walk.end1(alloc, entries.len() as u32)?;
+    walk.take_turns(alloc, entries)?;
     let Walk {
         core0,
         core1,

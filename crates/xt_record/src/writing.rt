@@ -6,6 +6,7 @@ ghost use Rattle.xt_core.specs.Runs.{IsRunOf};
 ghost use Rattle.xt_record.specs.Checkpoints.{checkpoints_of};
 ghost use Rattle.xt_record.specs.Fitting.{FitsRun};
 ghost use Rattle.xt_record.specs.Format.{Reads, recording_fault};
+ghost use Rattle.xt_record.specs.Joined.{joined_parts};
 ghost use Rattle.xt_record.specs.Written.{recording_bytes};
 ghost use Rattle.xt_record.specs.RecordingParts.{entry_bytes, first_operand, kind_number, options_bytes, second_operand};
 
@@ -127,12 +128,49 @@ fn points_of(alloc: Global, image: &Image, run: &Run) -> Result<Vec<Bytes>, Allo
     }
 }
 
+// Appends the recording of a run with the bytes of its image and its checkpoints.
+fn put_recording(
+    out: &mut Vec<u8>,
+    file: &[u8],
+    run: &Run,
+    points: &[Bytes],
+) -> Result<(), AllocError>
+    requires file { length file.now ≤ 8388608 }
+    requires entries { length run.now.history ≤ 8000000 }
+    requires points { length points.now ≤ 8000000 }
+    ensures { OnOk result (out.new.items ≡ out.old.items ++ joined_parts file.now run.now points.now) }
+{
+    let entries = run.history.as_slice();
+    out.extend_from_slice(b"XTRC")?;
+    put_words(out, &[2, file.len() as u32])?;
+    out.extend_from_slice(file)?;
+    put_options(out, &run.options)?;
+    put_words(out, &[entries.len() as u32])?;
+    put_entries(out, entries)?;
+    put_words(out, &[points.len() as u32])?;
+    put_points(out, points)?;
+    Ok(())
+}
+
+// The recording of a run with the bytes of its image and its checkpoints.
+fn joined(alloc: Global, file: &[u8], run: &Run, points: &[Bytes]) -> Result<Bytes, AllocError>
+    requires file { length file.now ≤ 8388608 }
+    requires entries { length run.now.history ≤ 8000000 }
+    requires points { length points.now ≤ 8000000 }
+    ensures { IfOk result (λ bytes. bytes ≡ joined_parts file.now run.now points.now) }
+{
+    let entries = run.history.len();
+    let size = FRONT_SIZE + file.len() + ENTRY_SIZE * entries + POINT_SIZE * points.len();
+    let mut out = Vec::with_capacity(alloc, size)?;
+    put_recording(&mut out, file, run, points)?;
+    Ok(Bytes::new(out))
+}
+
 /// The recording of a run: version 2, with its image and its checkpoints. The only error is running
 /// out of memory. What was written reads again as this image and this run, whose numbers are in the
 /// ranges of their types.
 ///
 /// Conditions: the image is well formed, and the run is the image's.
-#[tactic(auto, unfolding(crate::specs::Written::recording_bytes))]
 pub fn write_recording(alloc: Global, image: &Image, run: &Run) -> Result<Bytes, AllocError>
     requires image { IsWellFormed image.now }
     requires run { IsRunOf image.now run.now }
@@ -141,16 +179,5 @@ pub fn write_recording(alloc: Global, image: &Image, run: &Run) -> Result<Bytes,
 {
     let file = xt_image::write(alloc, image)?;
     let points = points_of(alloc, image, run)?;
-    let entries = run.history.as_slice();
-    let size = FRONT_SIZE + file.len() + ENTRY_SIZE * entries.len() + POINT_SIZE * points.len();
-    let mut out = Vec::with_capacity(alloc, size)?;
-    out.extend_from_slice(b"XTRC")?;
-    put_words(&mut out, &[2, file.len() as u32])?;
-    out.extend_from_slice(file.as_slice())?;
-    put_options(&mut out, &run.options)?;
-    put_words(&mut out, &[entries.len() as u32])?;
-    put_entries(&mut out, entries)?;
-    put_words(&mut out, &[points.len() as u32])?;
-    put_points(&mut out, points.as_slice())?;
-    Ok(Bytes::new(out))
+    joined(alloc, file.as_slice(), run, points.as_slice())
 }

@@ -3,3 +3,4 @@ pub mod Chaining
 pub mod Endings
 pub mod Marking
 pub mod Meeting
+pub mod Searching

@@ -1,6 +1,8 @@
 -- Marks of the worlds from which an end can be reached.
 use Rattle.std.proofs.Common.{◌≡◌, ℕ, zero, suc, ◌+◌, ◌<◌, ◌≤◌, Bool, true, false, Some, List, [], ◌∷◌, length, slice_get, slice_index_or, slice_set, if◌then◌else◌, refl, ap, ◌∙◌, subst, arith, ◌⊎◌, inl, inr, ⊎_elim}
+use Rattle.std.specs.Prelude.{replicate}
 use Rattle.std.proofs.Math.ListN.{length-set}
+use Rattle.std.proofs.lemmas.List.{length-replicate}
 use Rattle.std.proofs.lemmas.Option.{slice_get-get_or}
 use Rattle.xt_search.specs.declared.graph.Graph.{Graph}
 use Rattle.xt_search.specs.declared.graph.Kept.{Kept}
@@ -48,6 +50,20 @@ fewer_unmarked (false ∷ bs) zero e = refl
 fewer_unmarked (true ∷ bs) (suc at) e = fewer_unmarked bs at e
 fewer_unmarked (false ∷ bs) (suc at) e = ap suc (fewer_unmarked bs at e)
 
+-- nothing is marked at first
+pub none_marked : (n k : ℕ) → slice_get (replicate n false) k ≡ Some true → ⊥
+none_marked zero zero e = absurd cc
+none_marked zero (suc k) e = absurd cc
+none_marked (suc n) zero e = absurd cc
+none_marked (suc n) (suc k) e = none_marked n k e
+
+-- a marked world is no unmarked one
+pub marked_settled : {W : Type 0} (ends : W → Bool) (g : Graph W) (marks : List Bool) (k : ℕ) → slice_get marks k ≡ Some true → IsSettled ends g marks k
+marked_settled {W} ends g marks k e = record {
+  no_end = λ w f here. absurd (cc (e, f));
+  nexts = λ n f at. absurd (cc (e, f));
+}
+
 module _ {W : Type 0} (Leads : ℕ → W → W → Type 0) (ends : W → Bool) (g : Graph W) where
   -- an end that can be reached from the next world can be reached
   pub through : (c : ℕ) (w v : W) → c < 2 → Leads c w v → CanEnd Leads ends v → CanEnd Leads ends w
@@ -60,6 +76,13 @@ module _ {W : Type 0} (Leads : ℕ → W → W → Type 0) (ends : W → Bool) (
     can_end = λ k w e here. ⊎_elim
         (λ (i : k ≡ at). let P : ℕ → Type 0 = λ j. IsAt g.kept.items j w in new w (subst P i here))
         (λ (i : slice_get marks k ≡ Some true). h.can_end k w i here) (set_cases marks at k true true e);
+  }
+
+  -- before a world is marked
+  pub none_sound : (marks : List Bool) (n : ℕ) → marks ≡ replicate n false → n ≡ length g.kept.items → AreSound Leads ends g marks
+  none_sound marks n is long = record {
+    as_long = ap length is ∙ length-replicate n false ∙ long;
+    can_end = λ k w e here. absurd (none_marked n k (subst (λ (l : List Bool). slice_get l k ≡ Some true) is e));
   }
 
   -- by one of its next worlds

@@ -2,9 +2,10 @@
 use Rattle.std.proofs.Common.{◌≡◌, ℕ, zero, suc, ◌<◌, ◌≤◌, Some, List, [], ◌∷◌, ◌++◌, length, slice_get, refl, sym, ap, ◌∙◌, subst, arith, ◌⊎◌, inl, inr, ⊎_elim}
 use Rattle.std.specs.Option.{option_map}
 use Rattle.std.proofs.lemmas.Option.{slice_get-map, slice_get_within}
+use Rattle.xt_search.specs.declared.graph.Graph.{Graph}
 use Rattle.xt_search.specs.declared.graph.Kept.{Kept}
 use Rattle.xt_search.specs.declared.graph.Nexts.{Nexts}
-use Rattle.xt_search.specs.Graphs.{IsAt, IsFound, IsNext, AreNexts}
+use Rattle.xt_search.specs.Graphs.{IsAt, IsFound, IsGraph, IsNext, AreNexts}
 
 -- a kept world is the one under its number
 pub at_kept : {W : Type 0} (ks : List (Kept W)) (k : ℕ) (x : Kept W) → slice_get ks k ≡ Some x → IsAt ks k x.world
@@ -124,3 +125,22 @@ pub stays_in : {W : Type 0} (ks new : List (Kept W)) (x : Kept W) → new ≡ ks
 stays_in {W} ks new x e k w h =
     let P : List (Kept W) → Type 0 = λ js. IsAt js k w in
     subst P (sym e) (at_pushed ks x k w h)
+
+-- ---- one world
+
+no_one : {X : Type 0} (k : ℕ) (x : X) → slice_get [] k ≡ Some x → ⊥
+no_one zero x e = absurd cc
+no_one (suc k) x e = absurd cc
+
+module _ {W : Type 0} (Leads : ℕ → W → W → Type 0) where
+  found_one : (x y : Kept W) (k : ℕ) → slice_get (x ∷ []) k ≡ Some y → IsFound Leads (x ∷ []) k y
+  found_one x y zero at = tt
+  found_one x y (suc k) at = absurd (no_one k y at)
+
+  -- a graph of one world, of which no next worlds are known
+  pub one_graph : (g : Graph W) (x : Kept W) → g.kept.items ≡ x ∷ [] → g.nexts.items ≡ [] → IsGraph Leads g
+  one_graph g x is none = record {
+    found = λ k y at. subst (λ (js : List (Kept W)). IsFound Leads js k y) (sym is) (found_one x y k (subst (λ (js : List (Kept W)). slice_get js k ≡ Some y) is at));
+    nexts = λ k n w at here. absurd (no_one k n (subst (λ (ns : List Nexts). slice_get ns k ≡ Some n) none at));
+    within = let l : length g.nexts.items ≡ 0 = ap length none in omega arith;
+  }

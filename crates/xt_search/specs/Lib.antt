@@ -2,4 +2,5 @@ pub mod Worlds
 pub mod Graphs
 pub mod Chains
 pub mod Ends
+pub mod Searched
 pub mod Meetings

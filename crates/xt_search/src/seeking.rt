@@ -1,7 +1,8 @@
 //! The search: it keeps each world once, and asks of each where its turns lead.
-ghost use Rattle.std.specs.Prelude.{◌≡◌, ◌+◌, ◌<◌, ◌≤◌, ◌⊎◌, true, false, None, IfOk, IfSome, IfNone, OnOk, length, max};
-ghost use Rattle.xt_search.specs.Chains.{AreDistinct, IsTable};
-ghost use Rattle.xt_search.specs.Graphs.{IsAt, IsBarredAt, IsGraph, IsMore, IsNext, IsWhole, OpensWith};
+ghost use Rattle.std.specs.Prelude.{◌≡◌, ◌<◌, ◌≤◌, ◌⊎◌, None, IfOk, IfSome, IfNone, OnOk, length, max};
+ghost use Rattle.xt_search.specs.Chains.{AreDistinct};
+ghost use Rattle.xt_search.specs.Graphs.{IsBarredAt, IsGraph, IsWhole, OpensWith};
+ghost use Rattle.xt_search.specs.Searched.{IsBegun, IsGone, IsKept, IsLed, IsSearched};
 
 use crate::graph::{Barred, Graph, Kept, Nexts};
 use crate::machine::Machine;
@@ -19,22 +20,11 @@ fn next<M: Machine>(
     core: u8,
     most: u32,
 ) -> Result<Option<u32>, AllocError>
-    requires graph { IsGraph (M.Leads machine.now) graph.old }
-    requires table { IsTable (M.IsMark machine.now) graph.old.table graph.old.kept.items }
-    requires distinct { AreDistinct (M.Same machine.now) graph.old.kept.items }
+    requires kept { IsKept (M.Leads machine.now) (M.Same machine.now) (M.IsMark machine.now) graph.old }
     requires from { from < length graph.old.kept.items }
     requires core { core < 2 }
     requires free { graph.old.barred ≡ None }
-    ensures graph { OnOk result (IsGraph (M.Leads machine.now) graph.new) }
-    ensures table { OnOk result (IsTable (M.IsMark machine.now) graph.new.table graph.new.kept.items) }
-    ensures distinct { OnOk result (AreDistinct (M.Same machine.now) graph.new.kept.items) }
-    ensures more { OnOk result (IsMore graph.old graph.new) }
-    ensures nexts { OnOk result (graph.new.nexts.items ≡ graph.old.nexts.items) }
-    ensures barred { OnOk result (IfSome graph.new.barred (IsBarredAt (M.bars machine.now) graph.new.kept.items)) }
-    ensures free { IfOk result (λ r. IfSome r (λ k. graph.new.barred ≡ None)) }
-    ensures most { OnOk result (length graph.new.kept.items ≤ max (length graph.old.kept.items) most) }
-    ensures full { IfOk result (λ r. IfNone r (IfNone graph.new.barred (most ≤ length graph.new.kept.items))) }
-    ensures number { IfOk result (λ r. IfSome r (λ k. (w : M.World) → IsAt graph.old.kept.items from w → IsNext (M.Leads machine.now) graph.new.kept.items core w k)) }
+    ensures { IfOk result (IsLed (M.Leads machine.now) (M.Same machine.now) (M.IsMark machine.now) (M.bars machine.now) graph.old graph.new from core most) }
 {
     if machine.is_barred(&graph.kept[from].world, core) {
         graph.barred = Some(Barred { from, core });
@@ -49,9 +39,9 @@ fn next<M: Machine>(
     if count >= most as usize {
         return Ok(None);
     }
-    graph.table.add(digest)?;
     let from = from as u32;
     graph.kept.push(Kept { world, from, core })?;
+    graph.table.add(digest)?;
     Ok(Some(count as u32))
 }
 
@@ -63,20 +53,10 @@ fn settle<M: Machine>(
     desk: &mut M::Desk,
     most: u32,
 ) -> Result<bool, AllocError>
-    requires graph { IsGraph (M.Leads machine.now) graph.old }
-    requires table { IsTable (M.IsMark machine.now) graph.old.table graph.old.kept.items }
-    requires distinct { AreDistinct (M.Same machine.now) graph.old.kept.items }
+    requires kept { IsKept (M.Leads machine.now) (M.Same machine.now) (M.IsMark machine.now) graph.old }
     requires left { length graph.old.nexts.items < length graph.old.kept.items }
     requires free { graph.old.barred ≡ None }
-    ensures graph { OnOk result (IsGraph (M.Leads machine.now) graph.new) }
-    ensures table { OnOk result (IsTable (M.IsMark machine.now) graph.new.table graph.new.kept.items) }
-    ensures distinct { OnOk result (AreDistinct (M.Same machine.now) graph.new.kept.items) }
-    ensures more { OnOk result (IsMore graph.old graph.new) }
-    ensures most { OnOk result (length graph.new.kept.items ≤ max (length graph.old.kept.items) most) }
-    ensures barred { OnOk result (IfSome graph.new.barred (IsBarredAt (M.bars machine.now) graph.new.kept.items)) }
-    ensures free { IfOk result (λ on. on ≡ true → graph.new.barred ≡ None) }
-    ensures full { IfOk result (λ on. on ≡ false → IfNone graph.new.barred (most ≤ length graph.new.kept.items)) }
-    ensures one { IfOk result (λ on. on ≡ true → length graph.new.nexts.items ≡ length graph.old.nexts.items + 1) }
+    ensures { IfOk result (IsGone (M.Leads machine.now) (M.Same machine.now) (M.IsMark machine.now) (M.bars machine.now) graph.old graph.new most) }
 {
     let from = graph.nexts.len();
     let by0 = match next(graph, machine, desk, from, 0, most)? {
@@ -97,27 +77,48 @@ fn begun<M: Machine>(
     machine: &M,
     opening: M::World,
 ) -> Result<Graph<M::World>, AllocError>
-    ensures graph { IfOk result (λ g. IsGraph (M.Leads machine.now) g) }
-    ensures table { IfOk result (λ g. IsTable (M.IsMark machine.now) g.table g.kept.items) }
-    ensures opens { IfOk result (λ g. OpensWith g opening) }
-    ensures one { IfOk result (λ g. length g.kept.items ≡ 1) }
-    ensures none { IfOk result (λ g. length g.nexts.items ≡ 0) }
-    ensures free { IfOk result (λ g. g.barred ≡ None) }
+    ensures { IfOk result (IsBegun (M.Leads machine.now) (M.Same machine.now) (M.IsMark machine.now) opening) }
 {
-    let mut table = Table::new(alloc)?;
-    table.add(machine.digest(&opening))?;
+    let digest = machine.digest(&opening);
     let mut kept = Vec::new(alloc);
     kept.push(Kept {
         world: opening,
         from: 0,
         core: 0,
     })?;
+    let mut table = Table::new(alloc)?;
+    table.add(digest)?;
     Ok(Graph {
         kept,
         nexts: Vec::new(alloc),
         table,
         barred: None,
     })
+}
+
+// Finds out where the turns lead, from one world after the other, until this is known of all, as many
+// are kept as may be, or the search has to end before a turn.
+fn go_on<M: Machine>(
+    graph: &mut Graph<M::World>,
+    machine: &M,
+    desk: &mut M::Desk,
+    most: u32,
+) -> Result<(), AllocError>
+    requires kept { IsKept (M.Leads machine.now) (M.Same machine.now) (M.IsMark machine.now) graph.old }
+    requires one { length graph.old.kept.items ≡ 1 }
+    requires none { length graph.old.nexts.items ≡ 0 }
+    requires free { graph.old.barred ≡ None }
+    ensures { OnOk result (IsSearched (M.Leads machine.now) (M.Same machine.now) (M.IsMark machine.now) (M.bars machine.now) graph.old graph.new most) }
+{
+    for round in 0..most {
+        if graph.nexts.len() >= graph.kept.len() {
+            return Ok(());
+        }
+        if !settle(graph, machine, desk, most)? {
+            return Ok(());
+        }
+    }
+    Ok(())
 }
 
 /// The worlds that turns lead to from the opening one, at most so many. The only error is running out
@@ -139,13 +140,6 @@ pub fn search<M: Machine>(
     ensures most { IfOk result (λ g. length g.kept.items ≤ max 1 most) }
 {
     let mut graph = begun(alloc, machine, opening)?;
-    for round in 0..most {
-        if graph.nexts.len() >= graph.kept.len() {
-            return Ok(graph);
-        }
-        if !settle(&mut graph, machine, desk, most)? {
-            return Ok(graph);
-        }
-    }
+    go_on(&mut graph, machine, desk, most)?;
     Ok(graph)
 }

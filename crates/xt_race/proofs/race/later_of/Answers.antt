@@ -1,34 +1,17 @@
-use Rattle.xt_race.specs.KeptEntries.{events_left}
-use Rattle.xt_race.specs.Races.{events_of}
-use Rattle.xt_race.proofs.Walking.{are_of_cores, events_few, passed_all, passed_hit, passed_more, passed_none, passed_room, passed_taken}
+use Rattle.std.proofs.Common.{◌≤◌, IfOk, List, length, sym, subst}
+use Rattle.xt_race.specs.declared.event.Event.{Event}
+use Rattle.xt_race.specs.Firsts.{IsLater}
+use Rattle.xt_race.proofs.Acquiring.{AreOfCores}
+use Rattle.xt_race.proofs.Walking.{are_of_cores, events_few}
 use Rattle.xt_race.proofs.race.later_of.Goals as goal
 
-pub loop-event-init : goal.loop-event-init
-loop-event-init c =
-    let es = events_of c.args.image.now c.args.run.now in
-    passed_none es (events_left c.in_ok-events.events) c.in_ok-finder.finder c.in_ok-events.ensures (c.in_ok-finder.ensures es)
+pub later_in-requires-clause-few : goal.later_in-requires-clause-few
+later_in-requires-clause-few c =
+    subst (λ (es : List Event). length es ≤ 8000000) (sym c.in_ok-events.ensures) (events_few c.args.image.now c.args.run.now c.requires.run)
 
-pub take-requires : goal.take-requires
-take-requires c =
-    let es = events_of c.args.image.now c.args.run.now in
-    passed_room es (events_left c.loop-event.events) c.loop-event.finder c.in-Some.event (events_left c.next.new.self)
-    (events_few c.args.image.now c.args.run.now c.requires.run) c.loop-event.invariant c.in-Some.ensures
-
-pub returns-then-taken : goal.returns-then-taken
-returns-then-taken c =
-    let es = events_of c.args.image.now c.args.run.now in
-    let left = events_left c.loop-event.events in
-    let rest = events_left c.next.new.self in
-    let t = passed_taken es left c.loop-event.finder c.take.new.self c.in-Some.event rest c.in_ok-taken.taken (are_of_cores c.args.image.now c.args.run.now c.requires.run) c.loop-event.invariant c.in-Some.ensures c.in_ok-taken.ensures.taken in
-    passed_hit es left c.loop-event.finder c.take.new.self c.in-Some.event rest c.in_ok-taken.taken c.loop-event.invariant c.in-Some.ensures t c.if-taken.true
-
-pub loop-event-preserved : goal.loop-event-preserved
-loop-event-preserved c =
-    let es = events_of c.args.image.now c.args.run.now in
-    let left = events_left c.loop-event.events in
-    let rest = events_left c.next.new.self in
-    let t = passed_taken es left c.loop-event.finder c.take.new.self c.in-Some.event rest c.in_ok-taken.taken (are_of_cores c.args.image.now c.args.run.now c.requires.run) c.loop-event.invariant c.in-Some.ensures c.in_ok-taken.ensures.taken in
-    passed_more es left c.loop-event.finder c.take.new.self c.in-Some.event rest c.in_ok-taken.taken c.loop-event.invariant c.in-Some.ensures t c.in_ok-taken.ensures.count c.if-taken.false
+pub later_in-requires-clause-cores : goal.later_in-requires-clause-cores
+later_in-requires-clause-cores c =
+    subst AreOfCores (sym c.in_ok-events.ensures) (are_of_cores c.args.image.now c.args.run.now c.requires.run)
 
 pub returns : goal.returns
-returns c = passed_all (events_of c.args.image.now c.args.run.now) (events_left c.loop-event.events) c.loop-event.finder c.loop-event.invariant c.in_default.ensures
+returns c = subst (λ (es : List Event). IfOk c.later_in.result (λ found. IsLater es found)) c.in_ok-events.ensures c.later_in.ensures

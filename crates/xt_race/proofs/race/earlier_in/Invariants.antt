@@ -1,11 +1,10 @@
 use Rattle.std.proofs.Common.{length}
 use Rattle.xt_race.specs.KeptEntries.{events_left}
-use Rattle.xt_race.specs.Races.{events_of}
-use Rattle.xt_race.proofs.Walking.{Passed}
-use Rattle.xt_race.proofs.race.later_of.Given as goal
+use Rattle.xt_race.proofs.Walking.{Missed}
+use Rattle.xt_race.proofs.race.earlier_in.Given as goal
 
 abbrev pub invariant-loop-event : goal.invariant-loop-event
-invariant-loop-event l = Passed (events_of l.image l.run) (events_left l.events) l.finder
+invariant-loop-event l = Missed (events_left l.fn.events) (events_left l.events) l.later l.place
 
 abbrev pub decreases-loop-event : goal.decreases-loop-event
 decreases-loop-event l = length (events_left l.events)
