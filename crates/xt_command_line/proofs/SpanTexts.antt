@@ -1,5 +1,5 @@
 -- The words of memory that texts list.
-use Rattle.std.proofs.Common.{◌≡◌, ℕ, List, [], ◌∷◌, ◌++◌, Bor, length, Option, Some, None, arith, refl, sym, ap, append_assoc, append-nil}
+use Rattle.std.proofs.Common.{◌≡◌, ℕ, List, [], ◌∷◌, ◌++◌, Bor, length, Option, Some, None, arith, refl, sym, ap, ◌∙◌, append_assoc, append-nil}
 use Rattle.std.specs.Prelude.{◌==◌}
 use Rattle.std.proofs.lemmas.List.{drop_all}
 use Rattle.std.proofs.lemmas.Str.Pattern.{IsSplitOnceResult, split_once_first}
@@ -53,3 +53,9 @@ one_more xs s (Some ys) = ap Some (sym (append_assoc xs (s ∷ []) ys))
 
 pub no_more : (xs : List Span) → before xs (all_spans []) ≡ Some xs
 no_more xs = ap Some (append-nil xs)
+
+pub goes_on : (xs : List Span) (o : Option Span) (s : Span) (rest : Option (List Span)) → o ≡ Some s → before (xs ++ s ∷ []) rest ≡ before xs (and_all o rest)
+goes_on xs o s rest is = sym (ap (λ p. before xs (and_all p rest)) is ∙ one_more xs s rest)
+
+pub stops : (xs : List Span) (o : Option Span) (rest : Option (List Span)) → o ≡ None → before xs (and_all o rest) ≡ None
+stops xs o rest is = ap (λ p. before xs (and_all p rest)) is

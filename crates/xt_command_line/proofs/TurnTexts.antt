@@ -58,6 +58,14 @@ one_more xs t (Some ys) = ap Some (sym (append_assoc xs (t ∷ []) ys))
 pub no_more : {A : Type 0} (xs : List A) → before xs (Some []) ≡ Some xs
 no_more xs = ap Some (append-nil xs)
 
+-- one part more that says something, or nothing
+
+pub goes_on : {A : Type 0} (xs : List A) (o : Option A) (t : A) (rest : Option (List A)) → o ≡ Some t → before (xs ++ t ∷ []) rest ≡ before xs (and_all o rest)
+goes_on xs o t rest is = sym (ap (λ p. before xs (and_all p rest)) is ∙ one_more xs t rest)
+
+pub stops : {A : Type 0} (xs : List A) (o : Option A) (rest : Option (List A)) → o ≡ None → before xs (and_all o rest) ≡ None
+stops xs o rest is = ap (λ p. before xs (and_all p rest)) is
+
 -- ---- how many they are
 
 pub too_many : (count left rest : ℕ) → left < count → nat_le (count + rest) left ≡ false

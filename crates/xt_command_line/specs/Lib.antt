@@ -13,5 +13,6 @@ pub mod Roots
 pub mod Listings
 pub mod Depths
 pub mod Outcomes
+pub mod Forms
 pub mod Meaning
 pub mod Views

@@ -1,17 +1,19 @@
 //! The words of `check`, `gen`, `replay`, `uses` and `secrets`.
 ghost use Rattle.std.specs.Prelude.{◌≡◌, IfOk, map, string_bytes, option_map};
 ghost use Rattle.xt_command_line.specs.MeaningAnswers.{Means, MeansAs};
-ghost use Rattle.xt_command_line.specs.Arguments.{IsVecbase, generator_number_of, judged_number, judged_vecbase, needed_secrets, number_in, rigor_of, script_text_of, secret_options_of, vecbase_of};
+ghost use Rattle.xt_command_line.specs.Arguments.{IsVecbase, generator_number_of, judged_number, judged_vecbase, needed_secrets, number_in, rigor_of, script_text_of, secret_options_of, secrets_app, uses_app, vecbase_of};
+ghost use Rattle.xt_command_line.specs.Simple.{Matches, rows_by};
 
 use crate::command::{Refusal, Rigor};
 use crate::numbers::number;
-use crate::option_commands::{
-    check_matches, generator_matches, is_true, replay_matches, secrets_matches, text_of,
-    uses_matches,
-};
+use crate::option_commands::{Form, REPLAY, is_true, matches_for, text_of};
 use crate::option_words::{DEFAULT_VECBASE, number_or};
 use crate::secrets::{SecretOptions, secrets_in};
+use clap::ArgMatches;
 use std::alloc::Global;
+
+// The arguments of `secrets`.
+const SECRETS: [(Form, &str); 2] = [(Form::Text, "secret"), (Form::Text, "public")];
 
 // A VECBASE, or the first rule of usage that it breaks.
 fn judge_vecbase(vecbase: Option<u32>) -> Result<u32, Refusal>
@@ -34,7 +36,7 @@ pub fn check_vecbase(alloc: Global, words: &[String]) -> Result<u32, Refusal>
     ensures means { Means result (vecbase_of (map string_bytes words.now)) }
     ensures valid { IfOk result IsVecbase }
 {
-    let matches = check_matches(alloc, words)?;
+    let matches = matches_for(alloc, "check", &[(Form::Text, "vecbase")], words)?;
     judge_vecbase(number_or(text_of(&matches, "vecbase"), DEFAULT_VECBASE))
 }
 
@@ -56,7 +58,7 @@ fn number_from(text: Option<&str>) -> Result<u32, Refusal>
 pub fn generator_number(alloc: Global, words: &[String]) -> Result<u32, Refusal>
     ensures { Means result (generator_number_of (map string_bytes words.now)) }
 {
-    let matches = generator_matches(alloc, words)?;
+    let matches = matches_for(alloc, "gen", &[(Form::Positional, "number")], words)?;
     number_from(text_of(&matches, "number"))
 }
 
@@ -67,8 +69,15 @@ pub fn generator_number(alloc: Global, words: &[String]) -> Result<u32, Refusal>
 pub fn script_text<'a>(alloc: Global, words: &'a [String]) -> Result<&'a str, Refusal>
     ensures { MeansAs (λ t. t.now) result (script_text_of (map string_bytes words.now)) }
 {
-    let matches = replay_matches(alloc, words)?;
+    let matches = matches_for(alloc, "replay", &REPLAY, words)?;
     text_of(&matches, "script").ok_or(Refusal::Usage(3))
+}
+
+// What `clap` matches on the words of `uses`.
+fn uses_matches<'a>(alloc: Global, words: &'a [String]) -> Result<ArgMatches<'a>, Refusal>
+    ensures { Matches result (rows_by uses_app (map string_bytes words.now)) }
+{
+    matches_for(alloc, "uses", &[(Form::Flag, "lenient")], words)
 }
 
 /// The rigor that the words of `uses` say, the first of which stands for the command.
@@ -94,6 +103,13 @@ fn needed_secrets(secrets: Option<SecretOptions>) -> Result<SecretOptions, Refus
         Some(secrets) => Ok(secrets),
         None => Err(Refusal::Usage(10)),
     }
+}
+
+// What `clap` matches on the words of `secrets`.
+fn secrets_matches<'a>(alloc: Global, words: &'a [String]) -> Result<ArgMatches<'a>, Refusal>
+    ensures { Matches result (rows_by secrets_app (map string_bytes words.now)) }
+{
+    matches_for(alloc, "secrets", &SECRETS, words)
 }
 
 /// What the words of `secrets` say to be secret, the first of which stands for the command.

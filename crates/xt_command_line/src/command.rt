@@ -114,7 +114,7 @@ pub enum Command {
 }
 
 /// Why words are no command with options.
-#[derive(Clone, Copy, PartialEq, Eq)]
+#[derive(Clone, Copy)]
 pub enum Refusal {
     /// The number of the first rule of usage that the words break:
     /// 1 there is no word, 2 the command is unknown, 3 the further words do not match what the command takes, 4 to 8 a
@@ -135,7 +135,7 @@ impl From<AllocError> for Refusal {
 }
 
 /// The command that the first word names.
-#[derive(Clone, Copy, Debug, PartialEq, Eq)]
+#[derive(Clone, Copy)]
 pub enum Name {
     /// `asm`
     Assemble,

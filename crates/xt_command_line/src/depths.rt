@@ -4,9 +4,12 @@ ghost use Rattle.xt_command_line.specs.MeaningAnswers.{Means};
 ghost use Rattle.xt_command_line.specs.Depths.{judged_depth, profile_options_of};
 
 use crate::command::{ProfileOptions, Refusal};
-use crate::option_commands::{is_true, profile_matches, text_of};
+use crate::option_commands::{Form, is_true, matches_for, text_of};
 use crate::option_words::number_or;
 use std::alloc::Global;
+
+// The arguments of `profile`.
+const ARGUMENTS: [(Form, &str); 2] = [(Form::Text, "depth"), (Form::Flag, "after")];
 
 /// How many functions a key of `profile` has at most, but for cut ones, where no word says it.
 pub const DEFAULT_DEPTH: u32 = 8;
@@ -30,7 +33,7 @@ fn judge_depth(depth: Option<u32>, after: bool) -> Result<ProfileOptions, Refusa
 pub fn profile_options(alloc: Global, words: &[String]) -> Result<ProfileOptions, Refusal>
     ensures { Means result (profile_options_of (map string_bytes words.now)) }
 {
-    let matches = profile_matches(alloc, words)?;
+    let matches = matches_for(alloc, "profile", &ARGUMENTS, words)?;
     judge_depth(
         number_or(text_of(&matches, "depth"), DEFAULT_DEPTH),
         is_true(text_of(&matches, "after")),

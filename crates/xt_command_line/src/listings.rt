@@ -1,14 +1,25 @@
 //! The words of `dis`.
 ghost use Rattle.std.specs.Prelude.{◌≡◌, IfOk, map, string_bytes, option_map};
 ghost use Rattle.xt_command_line.specs.MeaningAnswers.{Means};
-ghost use Rattle.xt_command_line.specs.Listings.{AreOpenings, IsListing, IsWay, judged_openings, listing_of, openings_with, way_in};
+ghost use Rattle.xt_command_line.specs.Listings.{AreOpenings, IsListing, IsWay, dis_app, judged_openings, listing_of, openings_with, way_in};
+ghost use Rattle.xt_command_line.specs.Simple.{Matches, rows_by};
 
 use crate::command::{Listing, Openings, Refusal, Way};
-use crate::option_commands::{dis_matches, is_true, text_of};
+use crate::option_commands::{Form, is_true, matches_for, text_of};
 use crate::option_words::{DEFAULT_VECBASE, given_number, number_or};
 use crate::options::is_good_entry;
 use crate::roots::{Roots, roots_or_none};
+use clap::ArgMatches;
 use std::alloc::Global;
+
+// The arguments of `dis`.
+const ARGUMENTS: [(Form, &str); 5] = [
+    (Form::Text, "vecbase"),
+    (Form::Text, "entry1"),
+    (Form::Text, "roots"),
+    (Form::Flag, "flow"),
+    (Form::Flag, "data"),
+];
 
 // The openings that the texts say with these roots, or none where a text is no number or no list.
 fn openings_from(
@@ -64,6 +75,13 @@ fn way_from(
         (None, None, None) => Ok(Way::Sweep),
         _ => Err(Refusal::Usage(3)),
     }
+}
+
+// What `clap` matches on the words of `dis`.
+fn dis_matches<'a>(alloc: Global, words: &'a [String]) -> Result<ArgMatches<'a>, Refusal>
+    ensures { Matches result (rows_by dis_app (map string_bytes words.now)) }
+{
+    matches_for(alloc, "dis", &ARGUMENTS, words)
 }
 
 /// The listing that the words of `dis` say, the first of which stands for the command.

@@ -2,19 +2,55 @@
 ghost use Rattle.std.specs.Prelude.{◌≡◌, IfOk, map, string_bytes, option_map};
 ghost use Rattle.xt_command_line.specs.MeaningAnswers.{Means};
 ghost use Rattle.xt_command_line.specs.Numbers.{number_of};
-ghost use Rattle.xt_command_line.specs.Options.{AreValid, are_secrets_required, stack_between, given_number_of, options_or_refusal, options_in, options_with, range_of, record_options_of, run_options_of, said_or, judged_texts};
+ghost use Rattle.xt_command_line.specs.Options.{AreValid, are_secrets_required, stack_between, given_number_of, options_or_refusal, options_in, options_with, range_of, record_app, record_options_of, run_app, run_options_of, said_or, judged_texts};
+ghost use Rattle.xt_command_line.specs.Simple.{Matches, rows_by};
 ghost use Rattle.xt_command_line.specs.Views.{texts_in};
 
 use crate::command::Refusal;
 use crate::numbers::number;
-use crate::option_commands::{OptionTexts, record_matches, run_matches, texts_from};
+use crate::option_commands::{Form, OptionTexts, matches_for, texts_from};
 use crate::options::{RunOptions, within_limits};
 use crate::requirements::{Requirement, Requirements, is_among, required_in};
 use crate::secrets::{SecretOptions, secrets_in};
 use crate::spans::{Spans, shown_in};
 use crate::turn_orders::{TurnOrder, order_in};
+use clap::ArgMatches;
 use std::alloc::Global;
 use xt_trace::Stack;
+
+// The arguments of `run`.
+const RUN: [(Form, &str); 17] = [
+    (Form::Text, "turns0"),
+    (Form::Text, "turns1"),
+    (Form::Text, "entry1"),
+    (Form::Text, "vecbase"),
+    (Form::Text, "stack0"),
+    (Form::Text, "stack1"),
+    (Form::Text, "seed"),
+    (Form::Text, "order"),
+    (Form::Text, "require"),
+    (Form::Text, "memory"),
+    (Form::Text, "secret"),
+    (Form::Text, "public"),
+    (Form::Flag, "events"),
+    (Form::Flag, "race"),
+    (Form::Flag, "profile"),
+    (Form::Flag, "uses"),
+    (Form::Flag, "trace"),
+];
+
+// The arguments of `record`.
+const RECORD: [(Form, &str); 9] = [
+    (Form::Text, "turns0"),
+    (Form::Text, "turns1"),
+    (Form::Text, "entry1"),
+    (Form::Text, "vecbase"),
+    (Form::Text, "stack0"),
+    (Form::Text, "stack1"),
+    (Form::Text, "seed"),
+    (Form::Text, "order"),
+    (Form::Text, "require"),
+];
 
 // The range from one number to another, where both are there.
 fn between_both(lo: Option<u32>, hi: Option<u32>) -> Option<Stack>
@@ -35,6 +71,18 @@ fn range(text: &str) -> Option<Stack>
         None => None,
     }
 }
+
+// The stack of core 0 where no word says another.
+const BELOW: Stack = Stack {
+    lo: 0x3FFF0000,
+    hi: 0x3FFF8000,
+};
+
+// The stack of core 1 where no word says another.
+const ABOVE: Stack = Stack {
+    lo: 0x3FFF8000,
+    hi: 0x40000000,
+};
 
 /// VECBASE where no word says another.
 pub const DEFAULT_VECBASE: u32 = 0x40080000;
@@ -79,37 +127,35 @@ fn options_from(
 ) -> Option<RunOptions>
     ensures { result ≡ options_in (texts_in texts.entry) order required memory }
 {
-    let turns0 = number_or(texts.turns0, 100_000)?;
-    let turns1 = number_or(texts.turns1, 100_000)?;
-    let entry1 = given_number(texts.entry1)?;
-    let vecbase = number_or(texts.vecbase, DEFAULT_VECBASE)?;
-    let below = Stack {
-        lo: 0x3FFF0000,
-        hi: 0x3FFF8000,
-    };
-    let stack0 = range_or(texts.stack0, below)?;
-    let above = Stack {
-        lo: 0x3FFF8000,
-        hi: 0x40000000,
-    };
-    let stack1 = range_or(texts.stack1, above)?;
-    Some(RunOptions {
-        turns0,
-        turns1,
-        entry1,
-        vecbase,
-        stack0,
-        stack1,
-        order,
-        trace: texts.trace,
-        events: texts.events,
-        race: texts.race,
-        profile: texts.profile,
-        uses: texts.uses,
-        required,
-        memory,
-        secrets: None,
-    })
+    match (
+        number_or(texts.turns0, 100_000),
+        number_or(texts.turns1, 100_000),
+        given_number(texts.entry1),
+        number_or(texts.vecbase, DEFAULT_VECBASE),
+        range_or(texts.stack0, BELOW),
+        range_or(texts.stack1, ABOVE),
+    ) {
+        (Some(turns0), Some(turns1), Some(entry1), Some(vecbase), Some(stack0), Some(stack1)) => {
+            Some(RunOptions {
+                turns0,
+                turns1,
+                entry1,
+                vecbase,
+                stack0,
+                stack1,
+                order,
+                trace: texts.trace,
+                events: texts.events,
+                race: texts.race,
+                profile: texts.profile,
+                uses: texts.uses,
+                required,
+                memory,
+                secrets: None,
+            })
+        }
+        _ => None,
+    }
 }
 
 // The requirements ask for `secrets whole`.
@@ -148,6 +194,20 @@ pub fn judged_texts(alloc: Global, texts: OptionTexts<'_>) -> Result<RunOptions,
     let options = within_limits(options)?;
     let secrets = secrets_in(alloc, texts.secret, texts.public)?;
     options_with(options, secrets)
+}
+
+// What `clap` matches on the words of `run`.
+fn run_matches<'a>(alloc: Global, words: &'a [String]) -> Result<ArgMatches<'a>, Refusal>
+    ensures { Matches result (rows_by run_app (map string_bytes words.now)) }
+{
+    matches_for(alloc, "run", &RUN, words)
+}
+
+// What `clap` matches on the words of `record`.
+fn record_matches<'a>(alloc: Global, words: &'a [String]) -> Result<ArgMatches<'a>, Refusal>
+    ensures { Matches result (rows_by record_app (map string_bytes words.now)) }
+{
+    matches_for(alloc, "record", &RECORD, words)
 }
 
 /// The options that the words of `run` say, the first of which stands for the command.

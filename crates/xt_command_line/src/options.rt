@@ -1,6 +1,6 @@
 //! The options of `run` and `record`, and the rules that they keep.
-ghost use Rattle.std.specs.Prelude.{◌≡◌, IfOk};
-ghost use Rattle.xt_command_line.specs.Options.{AreValid, within_limits, is_entry, is_stack, with_entry};
+ghost use Rattle.std.specs.Prelude.{◌≡◌, IfOk, None};
+ghost use Rattle.xt_command_line.specs.Options.{AreValid, first_broken, limits, within_limits, is_entry, is_stack, with_entry};
 
 use crate::command::Refusal;
 use crate::requirements::Requirements;
@@ -85,6 +85,26 @@ fn is_good_stack(stack: Stack) -> bool
         && stack.hi.saturating_sub(stack.lo) >= 256
 }
 
+// The number of the first rule of usage that the options break.
+fn broken_rule(options: &RunOptions) -> Option<u8>
+    ensures rule { result ≡ first_broken (limits options.now) }
+    ensures valid { result ≡ None → AreValid options.now }
+{
+    if options.turns0 > MOST_TURNS || options.turns1 > MOST_TURNS || !is_short(&options.order) {
+        return Some(5);
+    }
+    if !is_good_entry(options.entry1) {
+        return Some(6);
+    }
+    if options.vecbase % 1024 != 0 {
+        return Some(7);
+    }
+    if !is_good_stack(options.stack0) || !is_good_stack(options.stack1) {
+        return Some(8);
+    }
+    None
+}
+
 /// The options, where they keep the rules of usage 5 to 8, or the first that they break.
 ///
 /// Rule 5: a number of turns is at most 4,000,000, and a listed order asks for at most 8,000,000. Rule 6: the address where core 1 begins, if it is given, lies in an
@@ -94,17 +114,8 @@ pub fn within_limits(options: RunOptions) -> Result<RunOptions, Refusal>
     ensures means { result ≡ within_limits options }
     ensures valid { IfOk result AreValid }
 {
-    if options.turns0 > MOST_TURNS || options.turns1 > MOST_TURNS || !is_short(&options.order) {
-        return Err(Refusal::Usage(5));
+    match broken_rule(&options) {
+        Some(rule) => Err(Refusal::Usage(rule)),
+        None => Ok(options),
     }
-    if !is_good_entry(options.entry1) {
-        return Err(Refusal::Usage(6));
-    }
-    if options.vecbase % 1024 != 0 {
-        return Err(Refusal::Usage(7));
-    }
-    if !is_good_stack(options.stack0) || !is_good_stack(options.stack1) {
-        return Err(Refusal::Usage(8));
-    }
-    Ok(options)
 }

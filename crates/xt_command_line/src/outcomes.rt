@@ -2,19 +2,34 @@
 ghost use Rattle.std.specs.Prelude.{◌≡◌, ◌+◌, ◌≤◌, ◌^◌, All, true, IfOk, IfSome, length, map, string_bytes, option_map};
 ghost use Rattle.xt_command_line.specs.MeaningAnswers.{Means};
 ghost use Rattle.xt_command_line.specs.Options.{judged_texts, said_or};
+ghost use Rattle.xt_command_line.specs.Simple.{Matches, rows_by};
 ghost use Rattle.xt_command_line.specs.Views.{texts_in};
-ghost use Rattle.xt_command_line.specs.Outcomes.{AreOutcomeOptions, is_place, may_count, outcomes_of, outcomes_with, place_of, places_of, states_of, word_texts};
+ghost use Rattle.xt_command_line.specs.Outcomes.{AreOutcomeOptions, is_place, may_count, outcomes_app, outcomes_of, outcomes_with, place_of, places_of, states_of, word_texts};
 
 use crate::command::Refusal;
 use crate::numbers::number;
 use crate::option_commands::{
-    OptionTexts, is_true, outcomes_matches, text_of, texts_from, texts_under,
+    Form, OptionTexts, is_true, matches_for, text_of, texts_from, texts_under,
 };
 use crate::option_words::judged_texts;
 use crate::options::RunOptions;
+use clap::ArgMatches;
 use std::alloc::{AllocError, Global};
 use std::marker::Model;
 use xt_map::is_in_memory;
+
+// The arguments of `outcomes`.
+const ARGUMENTS: [(Form, &str); 9] = [
+    (Form::Text, "turns0"),
+    (Form::Text, "turns1"),
+    (Form::Text, "entry1"),
+    (Form::Text, "vecbase"),
+    (Form::Text, "stack0"),
+    (Form::Text, "stack1"),
+    (Form::Text, "states"),
+    (Form::Texts, "word"),
+    (Form::Flag, "timed"),
+];
 
 /// How many worlds are kept at most, where no word says it.
 const DEFAULT_STATES: u32 = 1_000_000;
@@ -148,6 +163,13 @@ fn options_with(
         }
         (_, _) => Err(Refusal::Usage(4)),
     }
+}
+
+// What `clap` matches on the words of `outcomes`.
+fn outcomes_matches<'a>(alloc: Global, words: &'a [String]) -> Result<ArgMatches<'a>, Refusal>
+    ensures { Matches result (rows_by outcomes_app (map string_bytes words.now)) }
+{
+    matches_for(alloc, "outcomes", &ARGUMENTS, words)
 }
 
 /// The options that the words of `outcomes` say, the first of which stands for the command.

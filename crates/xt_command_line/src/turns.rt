@@ -6,9 +6,19 @@ ghost use Rattle.xt_command_line.specs.Turns.{chosen_turns, core_of, turns_of};
 
 use crate::command::{Refusal, Turns};
 use crate::numbers::number;
-use crate::option_commands::{is_true, text_of, trace_matches};
+use crate::option_commands::{Form, is_true, matches_for, text_of};
 use crate::option_words::number_or;
 use std::alloc::Global;
+
+// The arguments of `trace`.
+const ARGUMENTS: [(Form, &str); 6] = [
+    (Form::Text, "from"),
+    (Form::Text, "to"),
+    (Form::Text, "core"),
+    (Form::Flag, "accesses"),
+    (Form::Flag, "jumps"),
+    (Form::Flag, "frames"),
+];
 
 // The core that a text says, 0 or 1, or none where there is no text. Nothing says that a text says none.
 fn given_core(text: Option<&str>) -> Option<Option<u8>>
@@ -57,7 +67,7 @@ fn choose(
 pub fn trace_turns(alloc: Global, words: &[String]) -> Result<Turns, Refusal>
     ensures { Means result (turns_of (map string_bytes words.now)) }
 {
-    let matches = trace_matches(alloc, words)?;
+    let matches = matches_for(alloc, "trace", &ARGUMENTS, words)?;
     choose(
         number_or(text_of(&matches, "from"), 0),
         number_or(text_of(&matches, "to"), u32::MAX),

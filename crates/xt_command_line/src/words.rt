@@ -1,6 +1,6 @@
-ghost use Rattle.std.specs.Prelude.{◌≡◌, IfOk, map, string_bytes};
+ghost use Rattle.std.specs.Prelude.{◌≡◌, Err, IfOk, Some, map, string_bytes};
 ghost use Rattle.xt_command_line.specs.MeaningAnswers.{Means};
-ghost use Rattle.xt_command_line.specs.Meaning.{HasValidOptions, MayWantMemory, check_meaning_of, dis_meaning_of, gen_meaning_of, meaning_of, command_named, outcomes_meaning_of, profile_meaning_of, record_meaning_of, run_meaning_of, secrets_meaning_of, trace_meaning_of, uses_meaning_of};
+ghost use Rattle.xt_command_line.specs.Meaning.{HasValidOptions, MayWantMemory, TakesMemory, check_meaning_of, dis_meaning_of, gen_meaning_of, meaning_by, meaning_of, command_named, name_in, outcomes_meaning_of, profile_meaning_of, record_meaning_of, run_meaning_of, secrets_meaning_of, trace_meaning_of, uses_meaning_of};
 ghost use Rattle.xt_command_line.specs.declared.command.Refusal.TheVariants.{Memory};
 
 use crate::arguments::{check_vecbase, generator_number, secret_options, uses_rigor};
@@ -13,31 +13,45 @@ use crate::simple::without_options_meaning;
 use crate::turns::trace_turns;
 use std::alloc::Global;
 
+// The commands by their words.
+const NAMES: [(&str, Name); 18] = [
+    ("asm", Name::Assemble),
+    ("elf", Name::Convert),
+    ("dis", Name::Disassemble),
+    ("map", Name::Map),
+    ("check", Name::Check),
+    ("run", Name::Run),
+    ("record", Name::Record),
+    ("replay", Name::Replay),
+    ("migrate", Name::Migrate),
+    ("events", Name::Events),
+    ("counts", Name::Counts),
+    ("trace", Name::Trace),
+    ("race", Name::Race),
+    ("profile", Name::Profile),
+    ("uses", Name::Uses),
+    ("secrets", Name::Secrets),
+    ("outcomes", Name::Outcomes),
+    ("gen", Name::Generate),
+];
+
+// The command that a word names in a list.
+fn name_in(names: &[(&str, Name)], word: &str) -> Option<Name>
+    ensures { result ≡ name_in (map (λ n. (n.0.now, n.1)) names.now) word.now }
+{
+    for name in names {
+        if word == name.0 {
+            return Some(name.1);
+        }
+    }
+    None
+}
+
 #[tactic(auto, unfolding(crate::specs::Meaning::command_named))]
 fn name_of(word: &str) -> Option<Name>
     ensures { result ≡ command_named word.now }
 {
-    match word {
-        "asm" => Some(Name::Assemble),
-        "elf" => Some(Name::Convert),
-        "dis" => Some(Name::Disassemble),
-        "map" => Some(Name::Map),
-        "check" => Some(Name::Check),
-        "run" => Some(Name::Run),
-        "record" => Some(Name::Record),
-        "replay" => Some(Name::Replay),
-        "migrate" => Some(Name::Migrate),
-        "events" => Some(Name::Events),
-        "counts" => Some(Name::Counts),
-        "trace" => Some(Name::Trace),
-        "race" => Some(Name::Race),
-        "profile" => Some(Name::Profile),
-        "uses" => Some(Name::Uses),
-        "secrets" => Some(Name::Secrets),
-        "outcomes" => Some(Name::Outcomes),
-        "gen" => Some(Name::Generate),
-        _ => None,
-    }
+    name_in(&NAMES, word)
 }
 
 // The command `run` with the options that its words say.
@@ -150,6 +164,34 @@ fn gen_meaning(alloc: Global, words: &[String]) -> Result<Command, Refusal>
     }
 }
 
+// What the words of this command mean, the first of which names it.
+fn named_meaning(alloc: Global, name: Name, words: &[String]) -> Result<Command, Refusal>
+    ensures means { Means result (meaning_by (Some name) (map string_bytes words.now)) }
+    ensures valid { IfOk result HasValidOptions }
+    ensures memory { result ≡ Err Memory → TakesMemory (Some name) }
+{
+    match name {
+        Name::Run => run_meaning(alloc, words),
+        Name::Record => record_meaning(alloc, words),
+        Name::Assemble => { without_options_meaning(alloc, "asm", Command::Assemble, words) }
+        Name::Convert => without_options_meaning(alloc, "elf", Command::Convert, words),
+        Name::Disassemble => dis_meaning(alloc, words),
+        Name::Map => without_options_meaning(alloc, "map", Command::Map, words),
+        Name::Replay => Ok(Command::Replay),
+        Name::Migrate => { without_options_meaning(alloc, "migrate", Command::Migrate, words) }
+        Name::Events => { without_options_meaning(alloc, "events", Command::Events, words) }
+        Name::Counts => { without_options_meaning(alloc, "counts", Command::Counts, words) }
+        Name::Trace => trace_meaning(alloc, words),
+        Name::Race => without_options_meaning(alloc, "race", Command::Race, words),
+        Name::Profile => profile_meaning(alloc, words),
+        Name::Uses => uses_meaning(alloc, words),
+        Name::Secrets => secrets_meaning(alloc, words),
+        Name::Check => check_meaning(alloc, words),
+        Name::Outcomes => outcomes_meaning(alloc, words),
+        Name::Generate => gen_meaning(alloc, words),
+    }
+}
+
 /// The command with its options that the words after the program's name say, or why they say none.
 ///
 /// - No word is `Usage(1)`, and a first word that is no command `Usage(2)`.
@@ -178,25 +220,6 @@ pub fn meaning(alloc: Global, words: &[String]) -> Result<Command, Refusal>
     };
     match name_of(word.as_str()) {
         None => Err(Refusal::Usage(2)),
-        Some(Name::Run) => run_meaning(alloc, words),
-        Some(Name::Record) => record_meaning(alloc, words),
-        Some(Name::Assemble) => { without_options_meaning(alloc, "asm", Command::Assemble, words) }
-        Some(Name::Convert) => without_options_meaning(alloc, "elf", Command::Convert, words),
-        Some(Name::Disassemble) => dis_meaning(alloc, words),
-        Some(Name::Map) => without_options_meaning(alloc, "map", Command::Map, words),
-        Some(Name::Replay) => Ok(Command::Replay),
-        Some(Name::Migrate) => {
-            without_options_meaning(alloc, "migrate", Command::Migrate, words)
-        }
-        Some(Name::Events) => { without_options_meaning(alloc, "events", Command::Events, words) }
-        Some(Name::Counts) => { without_options_meaning(alloc, "counts", Command::Counts, words) }
-        Some(Name::Trace) => trace_meaning(alloc, words),
-        Some(Name::Race) => without_options_meaning(alloc, "race", Command::Race, words),
-        Some(Name::Profile) => profile_meaning(alloc, words),
-        Some(Name::Uses) => uses_meaning(alloc, words),
-        Some(Name::Secrets) => secrets_meaning(alloc, words),
-        Some(Name::Check) => check_meaning(alloc, words),
-        Some(Name::Outcomes) => outcomes_meaning(alloc, words),
-        Some(Name::Generate) => gen_meaning(alloc, words),
+        Some(name) => named_meaning(alloc, name, words),
     }
 }
