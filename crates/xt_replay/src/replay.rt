@@ -101,6 +101,14 @@ impl Checkpoint {
     }
 }
 
+// How many of the copies come before a core's step with this number.
+fn copies_before(copies: &[Checkpoint], core: u8, step: u32, count: u32) -> usize {
+    copies
+        .iter()
+        .filter(|checkpoint| checkpoint.is_before(core, step, count))
+        .count()
+}
+
 impl<'a> Replay<'a> {
     ghost use Rattle.std.specs.Prelude.{◌≡◌, ◌+◌, ◌<◌, ◌≤◌, true, false, IfOk, MatchResult, Some, length, slice_get, take};
     ghost use Rattle.xt_map.specs.Placing.{IsPlaced};
@@ -424,12 +432,7 @@ impl<'a> Replay<'a> {
         ensures comes { Comes self.new.image self.new.run core step self.new.position }
     {
         let count = self.count(core);
-        let n = self
-            .checkpoints
-            .as_slice()
-            .iter()
-            .filter(|checkpoint| checkpoint.is_before(core, step, count))
-            .count();
+        let n = copies_before(self.checkpoints.as_slice(), core, step, count);
         if n > 0
             && let Some(checkpoint) = self.checkpoints.as_slice().get(n - 1)
             && checkpoint.is_before(core, step, count)
