@@ -1,5 +1,5 @@
 -- The turn at a position, and the records and lines that follow it.
-use Rattle.std.proofs.Common.{◌≡◌, ℕ, zero, suc, ◌+◌, ◌-◌, ◌<◌, ◌≤◌, inl, inr, min, Option, Some, None, Result, Ok, Err, List, [], ◌∷◌, length, drop, get_or, refl, sym, ap, ◌∙◌, subst, arith}
+use Rattle.std.proofs.Common.{◌≡◌, ℕ, zero, suc, ◌+◌, ◌-◌, ◌<◌, ◌≤◌, inl, inr, min, Option, Some, Result, Ok, Err, List, [], ◌∷◌, length, drop, get_or, refl, sym, ap, ◌∙◌, subst, arith}
 use Rattle.std.specs.Prelude.{nat_le, slice_get}
 use Rattle.std.specs.Option.{option_map_or}
 use Rattle.std.specs.Result.{MatchResult}
@@ -14,15 +14,15 @@ use Rattle.xt_core.specs.Positions.{schedule_in}
 use Rattle.xt_core.specs.Runs.{IsRunOf, code_of, records_of}
 use Rattle.xt_map.specs.declared.segment.Segment.{Segment}
 use Rattle.xt_map.specs.Memory.{constant_byte}
-use Rattle.xt_replay.specs.Shown.{ReplayState, shown_at, step_in}
+use Rattle.xt_replay.specs.Shown.{IsNextTurn, ReplayState, shown_at, step_in}
 use Rattle.xt_replay.specs.Shown as shown
 use Rattle.xt_replay.specs.Stands.{Stand}
 use Rattle.xt_replay.proofs.Standing.{Step, Steps, bounds, next_step, schedule_long, steps0, steps1}
 use Rattle.xt_events.specs.declared.filter.Filter.{Filter}
 use Rattle.xt_events.specs.declared.told.TurnLine.{TurnLine}
 use Rattle.xt_events.specs.declared.turn_lines.TurnLines.TheInside.{Inside}
-use Rattle.xt_events.specs.Left.{IsAtPosition, IsNext, IsNextOf, records_left, state_of}
-use Rattle.xt_events.specs.Lines.{LinesState, line_at, filtered_between, lines_from, lines_in, lines_after_turn, told_at, told_text}
+use Rattle.xt_events.specs.Left.{IsAtPosition, state_of}
+use Rattle.xt_events.specs.Lines.{LinesState, filtered_between, kept_text, line_at, lines_from, lines_in, told_at, told_text}
 
 -- ---- the first of the records that are left
 
@@ -86,120 +86,27 @@ two_by image r p c (made1 is s) = omega (arith, is)
 pub two_cores : (image : Image) (r : Run) (p c : ℕ) → IsRunOf image r → p < length (schedule_in r) → slice_get (schedule_in r) p ≡ Some c → c < 2
 two_cores image r p c h lt is = two_by image r p c (made image r p c h lt is)
 
--- a position of the schedule has a core
-pub some_core : (l : List ℕ) (p : ℕ) → slice_get l p ≡ None → length l ≤ p
-some_core [] p is = omega arith
-some_core (c ∷ l) zero is = absurd cc
-some_core (c ∷ l) (suc p) is = let le : length l ≤ p = some_core l p is in omega (arith, le)
-
--- the core of the next turn is the schedule's
-pub next_core_is : (t : Inside) (core : Option ℕ) → IsAtPosition t → t.replay.position < t.end → core ≡ slice_get (schedule_in t.replay.run) t.replay.position
-    → IsNextOf (state_of t) core
-next_core_is t None h more is = absurd (omega (arith, some_core (schedule_in t.replay.run) t.replay.position (sym is), h.end_is, more))
-next_core_is t (Some core) h more is = record {
-  more = more;
-  is = sym is;
-  two = two_cores t.replay.image t.replay.run t.replay.position core h.run_is (omega (arith, h.end_is, more)) (sym is);
-}
-
 -- a position that the run has is reached
 pub sought : {E : Type 0} (old new : ReplayState) (p n : ℕ) (r : Result Unit E) → MatchResult r (λ _. (p ≤ n) × (new ≡ shown.replay_at old p)) (λ _. (n < p) × (new ≡ old)) → p ≤ n
     → new ≡ shown.replay_at old p
 sought old new p n (Ok u) h le = h.1
 sought old new p n (Err e) h le = let beyond : n < p = h.0 in absurd (omega (arith, beyond, le))
 
--- ---- the records that are left, one turn later
+-- ---- the line of the next turn
 
--- so many of a core's records were taken away
-pub skipped : (core : ℕ) (image : Image) (r : Run) (old new : List StepRecord) (count p : ℕ) → old ≡ (records_of core image r).records
-    → count ≡ step_in core (shown_at image r p) → new ≡ drop count old → new ≡ records_left core image r p
-skipped core image r old new count p all made rest =
-    rest ∙ ap (λ (n : ℕ). drop n old) made ∙ ap (drop (step_in core (shown_at image r p))) all
+pub next_there : (s : ReplayState) (o : Option (ℕ × StepRecord)) (core : ℕ) (x : StepRecord) → o ≡ Some (core, x) → IsNextTurn o s → IsNextTurn (Some (core, x)) s
+next_there s o core x is next = let F : Option (ℕ × StepRecord) → Type 0 = λ q. IsNextTurn q s in subst F is next
 
-turn_left : (core : ℕ) (image : Image) (r : Run) (p : ℕ) (old new : List StepRecord) → step_in core (shown_at image r (p + 1)) ≡ suc (step_in core (shown_at image r p))
-    → old ≡ records_left core image r p → new ≡ rest_of old → new ≡ records_left core image r (p + 1)
-turn_left core image r p old new on here rest =
-    let xs = (records_of core image r).records in
-    rest ∙ ap rest_of here ∙ rest_left (step_in core (shown_at image r p)) xs ∙ ap (λ (n : ℕ). drop n xs) (sym on)
-
-same_left : (core : ℕ) (image : Image) (r : Run) (p : ℕ) (old : List StepRecord) → step_in core (shown_at image r (p + 1)) ≡ step_in core (shown_at image r p)
-    → old ≡ records_left core image r p → old ≡ records_left core image r (p + 1)
-same_left core image r p old same here = here ∙ ap (λ (n : ℕ). drop n (records_of core image r).records) (sym same)
-
-left_by0 : (t : Inside) (xs : List StepRecord) (core : ℕ) → IsAtPosition t → Made t.replay.image t.replay.run t.replay.position core → core ≡ 0 → xs ≡ rest_of t.records0
-    → IsAtPosition (record t { replay = shown.replay_at t.replay (t.replay.position + 1); records0 = xs })
-left_by0 t xs core h (made0 is s) none rest = record {
-  run_is = h.run_is;
-  code_is = h.code_is;
-  records0 = turn_left 0 t.replay.image t.replay.run t.replay.position t.records0 xs s.zero_on h.records0 rest;
-  records1 = same_left 1 t.replay.image t.replay.run t.replay.position t.records1 s.one_same h.records1;
-  end_is = h.end_is;
-}
-left_by0 t xs core h (made1 is s) none rest = absurd (omega (arith, is, none))
-
-left_by1 : (t : Inside) (ys : List StepRecord) (core : ℕ) → IsAtPosition t → Made t.replay.image t.replay.run t.replay.position core → (core ≡ 0 → ⊥) → ys ≡ rest_of t.records1
-    → IsAtPosition (record t { replay = shown.replay_at t.replay (t.replay.position + 1); records1 = ys })
-left_by1 t ys core h (made0 is s) one rest = absurd (one is)
-left_by1 t ys core h (made1 is s) one rest = record {
-  run_is = h.run_is;
-  code_is = h.code_is;
-  records0 = same_left 0 t.replay.image t.replay.run t.replay.position t.records0 s.zero_same h.records0;
-  records1 = turn_left 1 t.replay.image t.replay.run t.replay.position t.records1 ys s.one_on h.records1 rest;
-  end_is = h.end_is;
-}
-
-inside : (t : Inside) → IsAtPosition t → t.replay.position < t.end → t.replay.position < length (schedule_in t.replay.run)
-inside t h more = omega (arith, h.end_is, more)
-
-pub kept0 : (t : Inside) (q : ReplayState) (xs : List StepRecord) (core : ℕ) → IsAtPosition t → IsNext (state_of t) core → core ≡ 0 → q ≡ shown.replay_at t.replay (t.replay.position + 1) → xs ≡ rest_of t.records0
-    → IsAtPosition (record t { replay = q; records0 = xs })
-kept0 t q xs core h n none there rest =
-    let F : ReplayState → Type 0 = λ s. IsAtPosition (record t { replay = s; records0 = xs }) in
-    subst F (sym there) (left_by0 t xs core h (made t.replay.image t.replay.run t.replay.position core h.run_is (inside t h n.more) n.is) none rest)
-
-pub kept1 : (t : Inside) (q : ReplayState) (ys : List StepRecord) (core : ℕ) → IsAtPosition t → IsNext (state_of t) core → (core ≡ 0 → ⊥) → q ≡ shown.replay_at t.replay (t.replay.position + 1) → ys ≡ rest_of t.records1
-    → IsAtPosition (record t { replay = q; records1 = ys })
-kept1 t q ys core h n one there rest =
-    let F : ReplayState → Type 0 = λ s. IsAtPosition (record t { replay = s; records1 = ys }) in
-    subst F (sym there) (left_by1 t ys core h (made t.replay.image t.replay.run t.replay.position core h.run_is (inside t h n.more) n.is) one rest)
-
--- the next position is one of the run
-pub next_within : (t : Inside) (core : ℕ) → IsAtPosition t → IsNext (state_of t) core → t.replay.position + 1 ≤ length (schedule_in t.replay.run)
-next_within t core h n = omega (arith, h.end_is, n.more)
-
--- it stands there
-pub next_there : {E : Type 0} (t : Inside) (core p : ℕ) (new : ReplayState) (r : Result Unit E) → IsAtPosition t → IsNext (state_of t) core → p ≡ t.replay.position
-    → MatchResult r (λ _. (p + 1 ≤ length (schedule_in t.replay.run)) × (new ≡ shown.replay_at t.replay (p + 1)))
-    (λ _. (length (schedule_in t.replay.run) < p + 1) × (new ≡ t.replay)) → new ≡ shown.replay_at t.replay (t.replay.position + 1)
-next_there t core p new r h n here found =
-    let le : p + 1 ≤ length (schedule_in t.replay.run) = omega (arith, next_within t core h n, here) in
-    sought t.replay new (p + 1) (length (schedule_in t.replay.run)) r found le ∙ ap (λ (k : ℕ). shown.replay_at t.replay (k + 1)) here
-
--- ---- the record that was given
-
-given_by : (c : ℕ) (image : Image) (r : Run) (p : ℕ) (old : List StepRecord) (given : Option StepRecord) → given ≡ first_of old → old ≡ records_left c image r p
-    → given ≡ slice_get (records_of c image r).records (step_in c (shown_at image r p))
-given_by c image r p old given first here =
-    first ∙ ap first_of here ∙ first_left (step_in c (shown_at image r p)) (records_of c image r).records
-
-abbrev pub told_by : Image → Run → ℕ → ℕ → Option StepRecord
-told_by image r p c = slice_get (records_of c image r).records (step_in c (shown_at image r p))
-
-pub given0 : (t : Inside) (core : ℕ) (given : Option StepRecord) → IsAtPosition t → core ≡ 0 → given ≡ first_of t.records0
-    → given ≡ told_by t.replay.image t.replay.run t.replay.position core
-given0 t core given h none first =
-    given_by 0 t.replay.image t.replay.run t.replay.position t.records0 given first h.records0
-    ∙ ap (told_by t.replay.image t.replay.run t.replay.position) (sym none)
-
-one_is : (core : ℕ) → core < 2 → (core ≡ 0 → ⊥) → 1 ≡ core
-one_is core two one = omega (arith, two, one)
-
-pub given1 : (t : Inside) (core : ℕ) (given : Option StepRecord) → IsAtPosition t → IsNext (state_of t) core → (core ≡ 0 → ⊥) → given ≡ first_of t.records1
-    → given ≡ told_by t.replay.image t.replay.run t.replay.position core
-given1 t core given h n one first =
-    given_by 1 t.replay.image t.replay.run t.replay.position t.records1 given first h.records1
-    ∙ ap (told_by t.replay.image t.replay.run t.replay.position)
-    (one_is core n.two one)
+pub line_is : (f : Filter) (image : Image) (r : Run) (p core : ℕ) (x : StepRecord) (told : TurnLine) (segments : List Segment) → slice_get (schedule_in r) p ≡ Some core
+    → slice_get (records_of core image r).records (step_in core (shown_at image r p)) ≡ Some x → told ≡ told_at image r p core → segments ≡ image.segments
+    → kept_text (constant_byte segments) f told x ≡ line_at f image r p
+line_is f image r p core x told segments core_is turn_is told_is code_is =
+    let t = told_at image r p core in
+    let code = code_of image in
+    ap (λ (s : List Segment). kept_text (constant_byte s) f told x) code_is
+    ∙ ap (λ (u : TurnLine). kept_text code f u x) told_is
+    ∙ sym (ap (λ (o : Option StepRecord). option_map_or (kept_text code f t) o []) turn_is)
+    ∙ sym (ap (λ (o : Option ℕ). option_map_or (λ (c : ℕ). told_text code f (told_at image r p c)) o []) core_is)
 
 -- ---- the lines that are left
 
@@ -210,24 +117,24 @@ lines_long f image r p (suc n) = ap suc (lines_long f image r (suc p) n)
 pub none_left : (s : LinesState) → s.end ≤ s.position → lines_in s ≡ []
 none_left s le = ap (lines_from s.filter s.image s.run s.position) (let e : s.end - s.position ≡ 0 = omega (arith, le) in e)
 
-line_of_core : (f : Filter) (image : Image) (r : Run) (p core : ℕ) (o : Option ℕ) → o ≡ Some core → o ≡ slice_get (schedule_in r) p
-    → line_at f image r p ≡ told_text (code_of image) f (told_at image r p core)
-line_of_core f image r p core o is here =
-    ap (λ (x : Option ℕ). option_map_or (λ (c : ℕ). told_text (code_of image) f (told_at image r p c)) x []) (sym here ∙ is)
+-- one turn later
+pub kept : (t : Inside) (q : ReplayState) → IsAtPosition t → q ≡ shown.replay_at t.replay (t.replay.position + 1) → IsAtPosition (record t { replay = q })
+kept t q h there =
+    let F : ReplayState → Type 0 = λ s. IsAtPosition (record t { replay = s }) in
+    subst F (sym there) (record { run_is = h.run_is; end_is = h.end_is })
 
-pub some_left : (s : LinesState) (core : ℕ) (segments : List Segment) (told : TurnLine) (text : List ℕ) → IsNext s core → segments ≡ s.image.segments → told ≡ told_at s.image s.run s.position core → text ≡ told_text (constant_byte segments) s.filter told → lines_in s ≡ text ∷ lines_in (lines_after_turn s)
-some_left s core segments told text n code told_is text_is =
-    let rest = s.end - (s.position + 1) in
-    let more : s.end - s.position ≡ suc rest = omega (arith, n.more) in
-    let next : suc s.position ≡ s.position + 1 = omega arith in
-    let line : line_at s.filter s.image s.run s.position ≡ text =
-    line_of_core s.filter s.image s.run s.position core (slice_get (schedule_in s.run) s.position) n.is refl
-    ∙ ap (told_text (code_of s.image) s.filter) (sym told_is)
-    ∙ ap (λ (segs : List Segment). told_text (constant_byte segs) s.filter told) (sym code)
-    ∙ sym text_is in
-    ap (lines_from s.filter s.image s.run s.position) more
-    ∙ ap (λ (l : List ℕ). l ∷ lines_from s.filter s.image s.run (suc s.position) rest) line
-    ∙ ap (λ (p : ℕ). text ∷ lines_from s.filter s.image s.run p rest) next
+pub some_left : (t : Inside) (s : LinesState) (q : ReplayState) (text : List ℕ) → state_of t ≡ s → t.replay.position < t.end → q ≡ shown.replay_at t.replay (t.replay.position + 1)
+    → text ≡ line_at t.filter t.replay.image t.replay.run t.replay.position → lines_in s ≡ text ∷ lines_in (state_of (record t { replay = q }))
+some_left t s q text seen more there text_is =
+    let r = t.replay in
+    let rest = t.end - (r.position + 1) in
+    let long : t.end - r.position ≡ suc rest = omega (arith, more) in
+    let next : suc r.position ≡ r.position + 1 = omega arith in
+    sym (ap lines_in seen)
+    ∙ ap (lines_from t.filter r.image r.run r.position) long
+    ∙ ap (λ (l : List ℕ). l ∷ lines_from t.filter r.image r.run (suc r.position) rest) (sym text_is)
+    ∙ ap (λ (p : ℕ). text ∷ lines_from t.filter r.image r.run p rest) next
+    ∙ sym (ap (λ (x : ReplayState). text ∷ lines_in (state_of (record t { replay = x }))) there)
 
 -- from where the lines begin
 pub lines_start : (f : Filter) (image : Image) (r : Run) (from to end start : ℕ) → end ≡ min to (length (schedule_in r)) → start ≡ min from end
@@ -261,17 +168,8 @@ start_there image r old new from to end start q h is e s found =
     let le : start ≤ length (schedule_in r) = omega (arith, e, s, (ends image r h).0) in
     sought old new start (length (schedule_in old.run)) q found (subst F (sym is) le)
 
-pub opened : (f : Filter) (image : Image) (r : Run) (s : ReplayState) (code : List Segment) (xs0 xs ys0 ys : List StepRecord) (m n start end : ℕ) → IsRunOf image r
-    → s ≡ record { image = image; run = r; position = start } → code ≡ image.segments
-    → xs0 ≡ (records_of 0 image r).records → m ≡ step_in 0 (shown_at s.image s.run s.position) → xs ≡ drop m xs0
-    → ys0 ≡ (records_of 1 image r).records → n ≡ step_in 1 (shown_at s.image s.run s.position) → ys ≡ drop n ys0
-    → end ≤ length (schedule_in r) → IsAtPosition (record { replay = s; code = code; records0 = xs; records1 = ys; filter = f; end = end })
-opened f image r s code xs0 xs ys0 ys m n start end h there code_is all0 made0_is rest0 all1 made1_is rest1 end_is =
-    let F : ReplayState → Type 0 = λ q. IsAtPosition (record { replay = q; code = code; records0 = xs; records1 = ys; filter = f; end = end }) in
-    subst F (sym there) (record {
-      run_is = h;
-      code_is = code_is;
-      records0 = skipped 0 image r xs0 xs m start all0 (made0_is ∙ ap (λ (q : ReplayState). step_in 0 (shown_at q.image q.run q.position)) there) rest0;
-      records1 = skipped 1 image r ys0 ys n start all1 (made1_is ∙ ap (λ (q : ReplayState). step_in 1 (shown_at q.image q.run q.position)) there) rest1;
-      end_is = end_is;
-    })
+pub opened : (f : Filter) (image : Image) (r : Run) (s : ReplayState) (start end : ℕ) → IsRunOf image r → s ≡ record { image = image; run = r; position = start }
+    → end ≤ length (schedule_in r) → IsAtPosition (record { replay = s; filter = f; end = end })
+opened f image r s start end h there end_is =
+    let F : ReplayState → Type 0 = λ q. IsAtPosition (record { replay = q; filter = f; end = end }) in
+    subst F (sym there) (record { run_is = h; end_is = end_is })

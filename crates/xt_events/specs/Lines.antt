@@ -129,10 +129,6 @@ pub record LinesState : Type 0 where
 abbrev pub lines_in : LinesState → List (List ℕ)
 lines_in s = lines_from s.filter s.image s.run s.position (s.end - s.position)
 
--- behind the next turn
-abbrev pub lines_after_turn : LinesState → LinesState
-lines_after_turn s = record s { position = s.position + 1 }
-
 -- the first of the lines that are left was given
 abbrev pub Gives :
     {E : Type 0} → Result (Option (List ℕ)) E → LinesState → LinesState → Type 0

@@ -17,5 +17,5 @@ pub use event_text::events_text;
 pub use filter::Filter;
 pub use laws::positions_have_turns;
 pub use told::{TurnLine, Window};
-pub use turn_line::push_turn;
-pub use turn_lines::TurnLines;
+pub use turn_line::{push_hex4, push_turn};
+pub use turn_lines::{TurnLines, push_next_turn};

@@ -1,15 +1,15 @@
 //! The line of a turn.
-ghost use Rattle.std.specs.Prelude.{◌≡◌, ◌++◌, IfOk, OnOk, string_bytes};
+ghost use Rattle.std.specs.Prelude.{◌≡◌, ◌++◌, OnOk, string_bytes};
 ghost use Rattle.xt_map.specs.Memory.{constant_byte};
 ghost use Rattle.xt_fetch.specs.Fetching.{fetch_at};
-ghost use Rattle.xt_events.specs.Lines.{bare_line, fetched_text, hex4, kept_text, told_text, turn_text, window_text};
+ghost use Rattle.xt_events.specs.Lines.{bare_line, fetched_text, hex4, kept_text, turn_text, window_text};
 
 use crate::filter::{Filter, holds};
 use crate::told::{TurnLine, Window};
 use std::alloc::{AllocError, Global};
 use xt_codec::{Fetch, instruction_at};
 use xt_disasm::insn_text;
-use xt_map::{Constants, Text};
+use xt_map::Constants;
 use xt_trace::{StepRecord, line};
 use xt_word::push_hex2;
 
@@ -47,9 +47,9 @@ fn push_fetched(
     }
 }
 
-// Appends 16 bits in four upper-case hexadecimal digits.
+/// Appends 16 bits in four upper-case hexadecimal digits.
 #[tactic(auto, using(crate::proofs::Halves::two_halves))]
-fn push_hex4(out: &mut String, bits: u16) -> Result<(), AllocError>
+pub fn push_hex4(out: &mut String, bits: u16) -> Result<(), AllocError>
     ensures { OnOk result (string_bytes out.new ≡ string_bytes out.old ++ hex4 bits) }
 {
     push_hex2(out, (bits / 256) as u8)?;
@@ -92,8 +92,9 @@ pub fn push_turn(
     Ok(())
 }
 
-// Appends the line of a turn with this record, if the filter holds of it.
-fn push_kept(
+/// Appends the line of a turn with this record, if the filter holds of it. The only error is running out of
+/// memory.
+pub fn push_kept(
     alloc: Global,
     out: &mut Vec<u8>,
     code: &Constants,
@@ -107,21 +108,4 @@ fn push_kept(
         return Ok(());
     }
     push_turn(alloc, out, code, told, r)
-}
-
-/// The line of a turn of which the filter holds, and nothing for another. The only error is running out of
-/// memory.
-pub fn told_line(
-    alloc: Global,
-    code: &Constants,
-    filter: Filter,
-    told: &TurnLine,
-) -> Result<Text, AllocError>
-    ensures { IfOk result (λ text. text ≡ told_text (constant_byte code.now) filter told.now) }
-{
-    let mut out = Vec::new(alloc);
-    if let Some(r) = told.turn {
-        push_kept(alloc, &mut out, code, filter, told, &r)?;
-    }
-    Ok(Text::new(out))
 }

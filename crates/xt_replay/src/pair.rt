@@ -8,7 +8,6 @@ use xt_window::WindowFile;
 
 /// Two cores over a memory, with the number of each core's next step, and how many accesses were
 /// served.
-#[derive(Drop)]
 pub struct Pair {
     pub core0: Core<WindowFile>,
     pub core1: Core<WindowFile>,
@@ -20,7 +19,6 @@ pub struct Pair {
 }
 
 /// A copy of two cores and a memory.
-#[derive(Drop)]
 pub struct Mark {
     pub regs0: Regs<WindowFile>,
     pub regs1: Regs<WindowFile>,
@@ -30,6 +28,36 @@ pub struct Mark {
     pub step1: u32,
     pub memory: Memory,
     pub used: u32,
+}
+
+// A `drop` of its own is a call at each place where a value is dropped; a derived one is laid out there
+// field by field.
+impl Drop for Pair {
+    fn drop(self) {
+        let Pair {
+            core0: _,
+            core1: _,
+            memory: _,
+            step0: _,
+            step1: _,
+            used: _,
+        } = self;
+    }
+}
+
+impl Drop for Mark {
+    fn drop(self) {
+        let Mark {
+            regs0: _,
+            regs1: _,
+            left0: _,
+            left1: _,
+            step0: _,
+            step1: _,
+            memory: _,
+            used: _,
+        } = self;
+    }
 }
 
 /// A copy of what a run has at a position.

@@ -2,6 +2,7 @@
 ghost use Rattle.std.specs.Prelude.{◌≡◌, drop};
 ghost use Rattle.xt_replay.specs.Stands.{next_of};
 
+use crate::ends::end_of;
 use crate::pair::{Checkpoint, Mark, Pair};
 use crate::state::State;
 use crate::turns::{next_reply, record_from};
@@ -23,7 +24,6 @@ pub struct PastEnd;
 
 /// A run of an image at a position: a number of steps of the run's schedule. Contracts see the image,
 /// the run and the position.
-#[derive(Drop)]
 pub struct Replay<'a> {
     image: &'a Image,
     run: &'a Run,
@@ -45,6 +45,21 @@ impl<'a> Model for Replay<'a> {
     ghost view = { replay_in };
 
     ghost invariant = { IsKept };
+}
+
+impl Drop for Replay<'_> {
+    fn drop(self) {
+        let Replay {
+            image: _,
+            run: _,
+            code: _,
+            pair: _,
+            opening: _,
+            checkpoints: _,
+            near: _,
+            position: _,
+        } = self;
+    }
 }
 
 // The core of the next step of a run that goes on, where so many accesses were served and core 0 has
@@ -84,6 +99,14 @@ impl Checkpoint {
         };
         made <= step && made < count
     }
+}
+
+// How many of the copies come before a core's step with this number.
+fn copies_before(copies: &[Checkpoint], core: u8, step: u32, count: u32) -> usize {
+    copies
+        .iter()
+        .filter(|checkpoint| checkpoint.is_before(core, step, count))
+        .count()
 }
 
 impl<'a> Replay<'a> {
@@ -144,6 +167,13 @@ impl<'a> Replay<'a> {
         self.run
     }
 
+    /// The image's constants, from which the cores fetch.
+    pub fn code(&self) -> &Constants<'a>
+        ensures { result.now ≡ self.now.image.segments }
+    {
+        &self.code
+    }
+
     /// The position: how many steps of the schedule were made. It is at most the schedule's length.
     pub fn position(&self) -> u32
         ensures position { result ≡ self.now.position }
@@ -167,13 +197,6 @@ impl<'a> Replay<'a> {
         }
     }
 
-    // The length of the schedule.
-    fn end(&self) -> u32
-        ensures { result ≡ length (schedule_in self.now.run) }
-    {
-        self.run.trace0.count + self.run.trace1.count
-    }
-
     // Goes back to the start.
     fn restart(&mut self)
         ensures { self.new ≡ replay_at self.old 0 }
@@ -182,8 +205,10 @@ impl<'a> Replay<'a> {
         self.position = 0;
     }
 
-    // One step on.
-    fn step(&mut self)
+    /// One step on.
+    ///
+    /// Condition: the position is before the end of the schedule.
+    pub fn step(&mut self)
         requires { self.old.position < length (schedule_in self.old.run) }
         ensures { self.new ≡ replay_at self.old (self.old.position + 1) }
     {
@@ -259,7 +284,7 @@ impl<'a> Replay<'a> {
     fn keep_all(&mut self, alloc: Global) -> Result<(), AllocError>
         ensures { self.new ≡ replay_at self.old self.new.position }
     {
-        'copies: while APART < self.end() - self.position() {
+        'copies: while APART < end_of(self) - self.position() {
             self.walk(self.position() + APART);
             self.keep(alloc)?;
         }
@@ -295,7 +320,7 @@ impl<'a> Replay<'a> {
             (λ _. (position ≤ length (schedule_in self.old.run)) × (self.new ≡ replay_at self.old position))
             (λ _. (length (schedule_in self.old.run) < position) × (self.new ≡ self.old)) }
     {
-        if self.end() < position {
+        if end_of(self) < position {
             return Err(PastEnd);
         }
         let from = self.position();
@@ -337,7 +362,7 @@ impl<'a> Replay<'a> {
     pub fn next_core(&self) -> Option<u8>
         ensures { result ≡ slice_get (schedule_in self.now.run) self.now.position }
     {
-        if self.position == self.end() {
+        if self.position == end_of(self) {
             return None;
         }
         Some(next_of(self.run, self.pair.used, self.pair.step0))
@@ -407,12 +432,7 @@ impl<'a> Replay<'a> {
         ensures comes { Comes self.new.image self.new.run core step self.new.position }
     {
         let count = self.count(core);
-        let n = self
-            .checkpoints
-            .as_slice()
-            .iter()
-            .filter(|checkpoint| checkpoint.is_before(core, step, count))
-            .count();
+        let n = copies_before(self.checkpoints.as_slice(), core, step, count);
         if n > 0
             && let Some(checkpoint) = self.checkpoints.as_slice().get(n - 1)
             && checkpoint.is_before(core, step, count)

@@ -1,6 +1,6 @@
 use Rattle.std.proofs.Common.{◌≡◌, ◌-◌, length, min, ap, ◌∙◌, arith}
 use Rattle.xt_core.specs.Positions.{schedule_in}
-use Rattle.xt_replay.specs.Shown.{ReplayState, Shown, step_in}
+use Rattle.xt_replay.specs.Shown.{ReplayState}
 use Rattle.xt_replay.specs.Shown as shown
 use Rattle.xt_events.specs.Lines.{lines_from}
 use Rattle.xt_events.proofs.Following.{ends, lines_start, opened, start_there}
@@ -21,11 +21,7 @@ invariant_of-result c =
     let there = start_there image run old c.seek.new.self c.args.from c.args.to c.min-end.result start c.seek.result c.requires.run same c.min-end.ensures c.min-start.ensures c.seek.ensures
     ∙ ap (λ (s : ReplayState). shown.replay_at s start) c.in_ok-replay.ensures in
     let long = (ends image run c.requires.run).0 in
-    opened c.args.filter image run c.seek.new.self c.in_ok-code.code c.in_ok-records0.records0 c.skip.new.records c.in_ok-records1.records1 c.skip-2.new.records c.step.result c.step-2.result start c.min-end.result
-    c.requires.run there (c.in_ok-code.ensures ∙ c.as_slice.ensures)
-    c.in_ok-records0.ensures (c.step.ensures ∙ ap (step_in 0) c.state.ensures) c.skip.ensures
-    c.in_ok-records1.ensures (c.step-2.ensures ∙ ap (step_in 1) c.state-2.ensures) c.skip-2.ensures
-    (omega (arith, c.min-end.ensures, long))
+    opened c.args.filter image run c.seek.new.self start c.min-end.result c.requires.run there (omega (arith, c.min-end.ensures, long))
 
 pub returns : goal.returns
 returns c =
