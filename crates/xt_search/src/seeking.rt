@@ -36,11 +36,10 @@ fn next<M: Machine>(
     ensures full { IfOk result (λ r. IfNone r (IfNone graph.new.barred (most ≤ length graph.new.kept.items))) }
     ensures number { IfOk result (λ r. IfSome r (λ k. (w : M.World) → IsAt graph.old.kept.items from w → IsNext (M.Leads machine.now) graph.new.kept.items core w k)) }
 {
-    if machine.is_barred(&graph.kept[from].world, core) {
+    let Some(world) = machine.turned(desk, &graph.kept[from].world, core)? else {
         graph.barred = Some(Barred { from, core });
         return Ok(None);
-    }
-    let world = machine.turned(desk, &graph.kept[from].world, core)?;
+    };
     let digest = machine.digest(&world);
     if let Some(number) = graph.table.find(machine, &graph.kept, &world, digest) {
         return Ok(Some(number));
