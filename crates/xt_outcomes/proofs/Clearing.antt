@@ -1,7 +1,6 @@
 -- Registers that are put to 0 by a mask.
-use Rattle.std.proofs.Common.{◌≡◌, ◌≢◌, ℕ, zero, suc, ◌<◌, ◌≤◌, Bool, true, false, cond, eqb, not, ◌&&◌, ◌||◌, ◌==◌, Option, Some, None, List, length, get_or, slice_index, slice_set, refl, sym, ap, ◌∙◌, subst, ⊎_elim, arith, eqb-true}
-use Rattle.std.specs.Prelude.{◌⊎◌}
-use Rattle.std.proofs.lemmas.Bool.{and_parts, cases_eq, cases_lt, or_cases, true≢false}
+use Rattle.std.proofs.Common.{◌≡◌, ◌≢◌, ℕ, zero, suc, ◌<◌, Bool, true, false, cond, not, ◌||◌, ◌==◌, Option, Some, None, List, length, slice_index, slice_set, refl, sym, ◌∙◌, subst, ⊎_elim, arith, eqb-true}
+use Rattle.std.proofs.lemmas.Bool.{and_parts, cases_eq, or_cases, true≢false}
 use Rattle.std.proofs.lemmas.List.{ext_get_or, get_or-set_other, get_or-set_same, length-set}
 use Rattle.xt_window.specs.Ring.{bit, place}
 use Rattle.xt_trace.specs.declared.record.RegWrite.{RegWrite}

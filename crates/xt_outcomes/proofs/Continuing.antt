@@ -28,7 +28,7 @@ use Rattle.xt_outcomes.specs.declared.world.World.{World as KeptWorld}
 use Rattle.xt_outcomes.proofs.CodeBytes.{memory_sizes}
 use Rattle.xt_outcomes.proofs.Commuted.{past_sizes}
 use Rattle.xt_outcomes.proofs.Covering.{order_more, runs_reach, stuck_turns}
-use Rattle.xt_outcomes.proofs.Finding.{all_turned, carried, ended_same, first_spot, meets_orders, spot_by, told_kept}
+use Rattle.xt_outcomes.proofs.Finding.{all_turned, carried, ended_same, first_spot, meets_orders, told_kept}
 
 -- ---- any list of numbers as an order of two cores
 

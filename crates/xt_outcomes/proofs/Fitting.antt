@@ -8,7 +8,7 @@ use Rattle.xt_fetch.specs.Fetching.{fetch_at}
 use Rattle.xt_rows.specs.Settling.{write_with_reply}
 use Rattle.xt_exec.specs.State.{State}
 use Rattle.xt_exec.specs.Turn.{demand, planned_turn, turn, with_write}
-use Rattle.xt_outcomes.specs.Dead.{are_fit, dead_at, fits, is_live, reads_of, stay_dead}
+use Rattle.xt_outcomes.specs.Dead.{are_fit, dead_at, fits, is_live, reads_of}
 use Rattle.xt_outcomes.specs.Nexts.{misfits, next_bars}
 use Rattle.xt_outcomes.specs.Places.{is_local, is_own_access}
 use Rattle.xt_outcomes.specs.SpotRaces.{next_of}

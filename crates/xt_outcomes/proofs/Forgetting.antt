@@ -1,6 +1,6 @@
 -- What a search keeps of a core goes on without its dead registers as it does with them.
-use Rattle.std.proofs.Common.{◌≡◌, ◌≢◌, ℕ, zero, suc, ◌+◌, ◌*◌, ◌/◌, ◌%◌, ◌^◌, ◌<◌, Bool, true, false, cond, eqb, not, ◌&&◌, ◌||◌, Option, Some, None, List, [], ◌∷◌, slice_index, bit_and, refl, sym, ap, ◌∙◌, subst, ⊎_elim, arith, eqb-true, ne_eqb}
-use Rattle.std.specs.Prelude.{◌⊎◌, ◌==◌}
+use Rattle.std.proofs.Common.{◌≡◌, ℕ, zero, suc, ◌+◌, ◌*◌, ◌/◌, ◌%◌, ◌^◌, Bool, true, false, cond, not, ◌&&◌, ◌||◌, Option, Some, None, List, [], ◌∷◌, bit_and, refl, sym, ap, ◌∙◌, subst, ⊎_elim, arith, eqb-true, ne_eqb}
+use Rattle.std.specs.Prelude.{◌==◌}
 use Rattle.std.proofs.lemmas.Bool.{and_parts, or_cases, or_parts, true≢false}
 use Rattle.xt_map.specs.declared.access.Access.{Access}
 use Rattle.xt_map.specs.declared.contents.MemoryContents.{MemoryContents}
@@ -22,8 +22,8 @@ use Rattle.xt_special.specs.Numbers as number
 use Rattle.xt_exec.specs.Chips.{processor}
 use Rattle.xt_exec.specs.State.{State}
 use Rattle.xt_exec.specs.Turn.{Planned, demand, planned_turn, turn, with_write}
-use Rattle.xt_timeless.specs.Time.{executes, fetches_time, timer_bits, uses_time, without_time}
-use Rattle.xt_outcomes.specs.Dead.{are_fit, cleared, dead_at, fits, forgotten, is_live, is_written, reads_of, side_forgotten, spot_forgotten, stay_dead}
+use Rattle.xt_timeless.specs.Time.{executes, fetches_time, timer_bits, uses_time}
+use Rattle.xt_outcomes.specs.Dead.{cleared, dead_at, fits, forgotten, is_live, is_written, reads_of, side_forgotten, spot_forgotten, stay_dead}
 use Rattle.xt_outcomes.specs.Nexts.{TurnsFit, misfits, next_bars, side_next, spot_next}
 use Rattle.xt_outcomes.specs.Orders.{world_after}
 use Rattle.xt_outcomes.specs.SpotRaces.{next_of}

@@ -1,12 +1,12 @@
 -- A search that keeps so many worlds has found orders that lead to as many states.
-use Rattle.std.proofs.Common.{◌≡◌, ℕ, suc, ◌<◌, ◌≤◌, List, [], ◌∷◌, length, sym, ap, ◌∙◌, subst, arith}
+use Rattle.std.proofs.Common.{◌≡◌, ℕ, ◌<◌, ◌≤◌, List, [], ◌∷◌, length, sym, ap, ◌∙◌, subst, arith}
 use Rattle.xt_map.specs.declared.contents.MemoryContents.{MemoryContents}
 use Rattle.xt_image.specs.declared.image.Image.{Image}
 use Rattle.xt_search.specs.Graphs.{IsAt}
 use Rattle.xt_search.specs.Worlds.{IsOrder, Reaches}
 use Rattle.xt_search.proofs.Endings.{some_at}
 use Rattle.xt_search.proofs.Numbers.{at_kept}
-use Rattle.xt_changes.specs.Changed.{ChangesState, IsLean, contents_of}
+use Rattle.xt_changes.specs.Changed.{IsLean}
 use Rattle.xt_changes.proofs.Leaning.{lean_same}
 use Rattle.xt_trace.specs.declared.options.Options.{Options}
 use Rattle.xt_exec.specs.State.{State}
@@ -15,7 +15,7 @@ use Rattle.xt_outcomes.specs.Dead.{spot_forgotten}
 use Rattle.xt_outcomes.specs.KeptWorlds.{Leads, spot_of}
 use Rattle.xt_outcomes.specs.Marks.{IsSameWorld}
 use Rattle.xt_outcomes.specs.Searched.{IsSearch, kept_after}
-use Rattle.xt_outcomes.specs.Spots.{Side, Spot}
+use Rattle.xt_outcomes.specs.Spots.{Spot}
 use Rattle.xt_outcomes.specs.States.{LeadToMany}
 use Rattle.xt_outcomes.specs.declared.found.Search.{Search}
 use Rattle.xt_outcomes.specs.declared.world.World.{World}

@@ -1,5 +1,5 @@
 -- A turn looks at no register but those that its instruction reads.
-use Rattle.std.proofs.Common.{◌≡◌, ℕ, zero, suc, ◌+◌, Bool, true, false, cond, eqb, not, ◌&&◌, ◌||◌, Option, Some, None, List, refl, sym, ap, ◌∙◌}
+use Rattle.std.proofs.Common.{◌≡◌, ℕ, zero, suc, Bool, true, false, cond, eqb, not, ◌||◌, Option, Some, None, List, refl, ap, ◌∙◌}
 use Rattle.std.specs.Prelude.{nat_lt}
 use Rattle.xt_isa.specs.declared.Insn.{Insn}
 use Rattle.xt_isa.specs.declared.Insn.TheVariants as insn
@@ -10,22 +10,20 @@ use Rattle.xt_isa.specs.declared.density.NarrowRetName.TheVariants as NarrowRetN
 use Rattle.xt_special.specs.Control.{Control, special_of}
 use Rattle.xt_special.specs.Interrupts.{pending_of}
 use Rattle.xt_special.specs.Numbers as number
-use Rattle.xt_window.specs.Ring.{bit, place, visible, without_bit}
+use Rattle.xt_window.specs.Ring.{bit, visible, without_bit}
 use Rattle.xt_window.specs.Moves.{base_after_return, behind, is_bad}
-use Rattle.xt_trace.specs.declared.record.RegWrite.{RegWrite}
 use Rattle.xt_trace.specs.declared.record.StepRecord.{StepRecord}
 use Rattle.xt_rows.specs.declared.outcome.Outcome.{Outcome}
 use Rattle.xt_rows.specs.declared.outcome.Outcome.TheVariants.{Does, Raises, Asks, Stops, Windowed}
-use Rattle.xt_rows.specs.declared.outcome.WindowRegister.{WindowRegister}
 use Rattle.xt_rows.specs.declared.outcome.WindowRegister.TheVariants as window
 use Rattle.xt_rows.specs.declared.outcome.WindowStep.{WindowStep}
 use Rattle.xt_rows.specs.declared.outcome.WindowStep.TheVariants.{Enters, Returns, EndsOverflow, EndsUnderflow, Rotates, MovesStack, Reads, Sets, Exchanges}
 use Rattle.xt_fetch.specs.Fetching.{Fetched, Fetches, Fails, SpellsNothing, fetch_at}
-use Rattle.xt_rows.specs.Effects.{fetch_error, illegal_instruction, no_caller_window, write_to}
+use Rattle.xt_rows.specs.Effects.{illegal_instruction, no_caller_window, write_to}
 use Rattle.xt_rows.specs.Operands.{reads}
 use Rattle.xt_rows.specs.Outcomes.{outcome_at, value_of}
 use Rattle.xt_rows.specs.RowLaws.{AgreeAt, AgreeOn}
-use Rattle.xt_rows.specs.Settling.{return_pc, return_size, settled_exception, settled_interrupt, settled_wait, write_with_reply}
+use Rattle.xt_rows.specs.Settling.{return_pc, return_size, settled_interrupt, settled_wait, write_with_reply}
 use Rattle.xt_exec.specs.State.{State}
 use Rattle.xt_exec.specs.Turn.{Planned, demand, entry_turn, fall_through, fetched_turn, has_windows, in_window, is_illegal, moved_stack, outcome_turn, overflow, planned_turn, raises, reply_where, resuming_turn, return_turn, turn, turn_or_overflow, underflow, window_check, window_step, window_turn, with_write}
 use Rattle.xt_outcomes.specs.Dead.{reads_of}

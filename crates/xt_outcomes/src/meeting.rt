@@ -27,8 +27,10 @@ const FIRST: u32 = 1024;
 // How many turns of a core are watched before a search.
 const MOST_WATCHED: u32 = 16384;
 
-// How many searches are made at most, and how many of them with dead registers.
+// How many searches are made at most.
 const MOST_SEARCHES: u32 = 128;
+
+// How many of them, the first ones, have dead registers.
 const MOST_WITH_DEAD: u32 = 96;
 
 /// Searches the worlds after all orders, where turns that meet nothing by these places are made at once, and

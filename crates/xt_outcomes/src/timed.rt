@@ -117,7 +117,9 @@ impl<'a> Timed<'a> {
         let mut changes = world.changes.copy(self.alloc)?;
         let side = world.side(core);
         if side.left() == 0 {
-            let next = desk.shared.moved(self.alloc, world, core, side.copy(), changes)?;
+            let next = desk
+                .shared
+                .moved(self.alloc, world, core, side.copy(), changes)?;
             return Ok(next);
         }
         let (side, _) = side.recorded(&self.code, &self.opening, &mut changes, self.timed)?;
@@ -216,12 +218,7 @@ impl<'a> Timed<'a> {
     }
 
     // The core after its next turn, whose access is served. The only error is running out of memory.
-    fn go_on(
-        &self,
-        side: &Side,
-        ahead: &Ahead,
-        changes: &mut Changes,
-    ) -> Result<Side, AllocError>
+    fn go_on(&self, side: &Side, ahead: &Ahead, changes: &mut Changes) -> Result<Side, AllocError>
         requires left { 0 < side.now.left }
         requires ahead { IsAhead (constant_byte self.now.code) side.now.state (contents_of self.now.opening.contents changes.old) ahead.now }
         ensures side { IfOk result (λ s. s ≡ side_next (processor (constant_byte self.now.code)) self.now.timed self.now.dead.masks.items side.now.left side.now (contents_of self.now.opening.contents changes.old)) }
@@ -335,12 +332,7 @@ impl<'a> Timed<'a> {
     /// one. The only error is running out of memory.
     ///
     /// Condition: the core is 0 or 1.
-    pub fn run(
-        &self,
-        desk: &mut Desk,
-        world: &World,
-        core: u8,
-    ) -> Result<Option<Run>, AllocError>
+    pub fn run(&self, desk: &mut Desk, world: &World, core: u8) -> Result<Option<Run>, AllocError>
         requires core { core < 2 }
         ensures run { IfOk result (λ o. IfSome o (λ r. spot_of self.now.opening.contents r.world ≡ spot_run (constant_byte self.now.code) self.now.timed self.now.dead.masks.items self.now.places.list.items self.now.most_local core (spot_of self.now.opening.contents world.now))) }
         ensures turns { IfOk result (λ o. IfSome o (λ r. spot_of self.now.opening.contents r.world ≡ after (spot_next (processor (constant_byte self.now.code)) self.now.timed self.now.dead.masks.items) (turns_of core r.turns) (spot_of self.now.opening.contents world.now))) }
@@ -385,12 +377,7 @@ impl<'a> Timed<'a> {
     /// error is running out of memory.
     ///
     /// Condition: the core is 0 or 1.
-    pub(crate) fn made(
-        &self,
-        desk: &mut Desk,
-        world: &World,
-        core: u8,
-    ) -> Result<Run, AllocError>
+    pub(crate) fn made(&self, desk: &mut Desk, world: &World, core: u8) -> Result<Run, AllocError>
         requires core { core < 2 }
         requires free { bars (constant_byte self.now.code) self.now.timed self.now.dead.masks.items self.now.opening.contents core world.now ≡ false }
         ensures run { IfOk result (λ r. spot_of self.now.opening.contents r.world ≡ spot_run (constant_byte self.now.code) self.now.timed self.now.dead.masks.items self.now.places.list.items self.now.most_local core (spot_of self.now.opening.contents world.now)) }

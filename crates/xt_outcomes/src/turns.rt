@@ -152,9 +152,10 @@ impl Side {
         requires left { 0 < self.now.left }
         requires shaped { IsShaped (file_state ahead.now.regs) }
         ensures { result ≡ record {
-            state = state_kept timed (file_state ahead.now.regs);
-            left = left_past ahead.now.record (more_kept timed (self.now.left - 1));
-            stopped = self.now.stopped || is_stop ahead.now.record.kind } }
+          state = state_kept timed (file_state ahead.now.regs);
+          left = left_past ahead.now.record (more_kept timed (self.now.left - 1));
+          stopped = self.now.stopped || is_stop ahead.now.record.kind;
+        } }
     {
         let stops = stops(ahead.record.kind);
         Side {

@@ -6,8 +6,7 @@ use Rattle.xt_core.specs.Runs.{memory_of}
 use Rattle.xt_exec.specs.State.{State}
 use Rattle.xt_search.proofs.Numbers.{at_kept, at_within}
 use Rattle.xt_outcomes.specs.Dead.{fits}
-use Rattle.xt_outcomes.specs.KeptWorlds.{spot_of}
-use Rattle.xt_outcomes.specs.Spots.{Side, side_bars, side_of}
+use Rattle.xt_outcomes.specs.Spots.{Side, side_bars}
 use Rattle.xt_outcomes.proofs.Many.{many_found}
 use Rattle.xt_outcomes.proofs.Using.{time_used}
 use Rattle.xt_outcomes.proofs.meeting.ended_by.Goals as goal

@@ -1,10 +1,10 @@
-use Rattle.std.proofs.Common.{◌≡◌, ℕ, sym, ap, ◌∙◌, subst}
+use Rattle.std.proofs.Common.{ℕ, sym, ap, ◌∙◌, subst}
 use Rattle.xt_special.specs.Values.{control_at}
 use Rattle.xt_window.specs.Values.{WindowState}
 use Rattle.xt_exec.specs.State.{State}
 use Rattle.xt_exec.specs.States.{file_state}
 use Rattle.xt_exec.specs.TurnLaws.{IsShaped}
-use Rattle.xt_outcomes.specs.Dead.{cleared, forgotten}
+use Rattle.xt_outcomes.specs.Dead.{cleared}
 use Rattle.xt_outcomes.proofs.Turned.{forgotten_shaped}
 use Rattle.xt_outcomes.proofs.turns.regs_forgetting.Goals as goal
 

@@ -1,4 +1,4 @@
-use Rattle.std.proofs.Common.{◌≡◌, ℕ, ◌<◌, true, false, sym, ap, ◌∙◌, arith}
+use Rattle.std.proofs.Common.{◌≡◌, ◌<◌, true, false, sym, ap, ◌∙◌, arith}
 use Rattle.xt_map.specs.Memory.{constant_byte}
 use Rattle.xt_changes.specs.Changed.{contents_of}
 use Rattle.xt_exec.specs.States.{file_state}

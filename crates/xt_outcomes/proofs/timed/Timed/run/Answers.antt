@@ -1,4 +1,4 @@
-use Rattle.std.proofs.Common.{◌≡◌, ◌+◌, ◌-◌, ℕ, ap, sym, ◌∙◌, subst, true, false, arith}
+use Rattle.std.proofs.Common.{◌≡◌, ◌+◌, ◌-◌, ap, sym, ◌∙◌, subst, true, arith}
 use Rattle.xt_map.specs.Memory.{constant_byte}
 use Rattle.xt_changes.specs.Changed.{IsLean, contents_of}
 use Rattle.xt_exec.specs.Chips.{processor}
