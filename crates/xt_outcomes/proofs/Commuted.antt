@@ -18,9 +18,11 @@ use Rattle.xt_exec.specs.TurnLaws.{IsServed}
 use Rattle.xt_exec.specs.State.{State}
 use Rattle.xt_exec.specs.Turn.{demand}
 use Rattle.xt_exec.proofs.Served.{demand_served}
+use Rattle.xt_outcomes.specs.Dead.{side_forgotten}
+use Rattle.xt_outcomes.specs.Nexts.{next_bars, side_next, spot_next}
 use Rattle.xt_outcomes.specs.Places.{is_allowed, is_local, is_own, is_own_access, is_told, may_access, may_come, or_met, place_of, slot_of}
 use Rattle.xt_outcomes.specs.SpotRaces.{next_of}
-use Rattle.xt_outcomes.specs.Spots.{Side, Spot, memory_given, side_bars, side_given, side_of, side_past, spot_past}
+use Rattle.xt_outcomes.specs.Spots.{Side, Spot, memory_given, side_of, side_past}
 use Rattle.xt_outcomes.specs.declared.places.Place.{Place}
 use Rattle.xt_outcomes.specs.declared.places.Place.TheVariants as place
 
@@ -184,20 +186,20 @@ module _ (code : ℕ → ℕ) where
   given_sizes zero s m z = z
   given_sizes (suc n) s m z = left_sizes (demand code s) m z
 
-  module _ (timed : Bool) where
-    pub past_sizes : (c : ℕ) (p : Spot State) → HasSizes p.memory → HasSizes (spot_past (processor code) timed c p).memory
+  module _ (timed : Bool) (ms : List ℕ) where
+    pub past_sizes : (c : ℕ) (p : Spot State) → HasSizes p.memory → HasSizes (spot_next (processor code) timed ms c p).memory
     past_sizes zero p z = given_sizes p.side0.left p.side0.state p.memory z
     past_sizes (suc c) p z = given_sizes p.side1.left p.side1.state p.memory z
 
     side_stays : (n k : ℕ) (s : State) (t : Side State) (m : MemoryContents) → SidesApart n k s t.state
-        → side_given (processor code) timed k t (memory_given (processor code) n s m) ≡ side_given (processor code) timed k t m
+        → side_next (processor code) timed ms k t (memory_given (processor code) n s m) ≡ side_next (processor code) timed ms k t m
     side_stays zero k s t m h = refl
     side_stays (suc n) zero s t m h = refl
-    side_stays (suc n) (suc k) s t m h = ap (side_past (processor code) timed t k) (answer_stays (demand code s) (demand code t.state) m h)
+    side_stays (suc n) (suc k) s t m h = ap (λ (reply : ℕ). side_forgotten ms (side_past (processor code) timed t k reply)) (answer_stays (demand code s) (demand code t.state) m h)
 
     -- the two turns in either order
     swapped_spots : (p : Spot State) → HasSizes p.memory → SidesApart p.side0.left p.side1.left p.side0.state p.side1.state
-        → spot_past (processor code) timed 1 (spot_past (processor code) timed 0 p) ≡ spot_past (processor code) timed 0 (spot_past (processor code) timed 1 p)
+        → spot_next (processor code) timed ms 1 (spot_next (processor code) timed ms 0 p) ≡ spot_next (processor code) timed ms 0 (spot_next (processor code) timed ms 1 p)
     swapped_spots p z h =
         let P = processor code in
         let n = p.side0.left in
@@ -205,14 +207,14 @@ module _ (code : ℕ → ℕ) where
         let s = p.side0.state in
         let t = p.side1.state in
         let make : Side State → Side State → MemoryContents → Spot State = λ x y m. record { side0 = x; side1 = y; memory = m } in
-        let e : side_given P timed n p.side0 p.memory ≡ side_given P timed n p.side0 (memory_given P k t p.memory) = sym (side_stays k n t p.side0 p.memory (sides_turned n k s t h)) in
-        let f : side_given P timed k p.side1 (memory_given P n s p.memory) ≡ side_given P timed k p.side1 p.memory = side_stays n k s p.side1 p.memory h in
-        ap (λ (x : Side State). make x (side_given P timed k p.side1 (memory_given P n s p.memory)) (memory_given P k t (memory_given P n s p.memory))) e
-        ∙ ap (λ (y : Side State). make (side_given P timed n p.side0 (memory_given P k t p.memory)) y (memory_given P k t (memory_given P n s p.memory))) f
-        ∙ ap (make (side_given P timed n p.side0 (memory_given P k t p.memory)) (side_given P timed k p.side1 p.memory)) (memory_swaps n k s t p.memory z h)
+        let e : side_next P timed ms n p.side0 p.memory ≡ side_next P timed ms n p.side0 (memory_given P k t p.memory) = sym (side_stays k n t p.side0 p.memory (sides_turned n k s t h)) in
+        let f : side_next P timed ms k p.side1 (memory_given P n s p.memory) ≡ side_next P timed ms k p.side1 p.memory = side_stays n k s p.side1 p.memory h in
+        ap (λ (x : Side State). make x (side_next P timed ms k p.side1 (memory_given P n s p.memory)) (memory_given P k t (memory_given P n s p.memory))) e
+        ∙ ap (λ (y : Side State). make (side_next P timed ms n p.side0 (memory_given P k t p.memory)) y (memory_given P k t (memory_given P n s p.memory))) f
+        ∙ ap (make (side_next P timed ms n p.side0 (memory_given P k t p.memory)) (side_next P timed ms k p.side1 p.memory)) (memory_swaps n k s t p.memory z h)
 
     -- the other core stays
-    pub other_side : (c d : ℕ) (p : Spot State) → c < 2 → d < 2 → c ≢ d → side_of d (spot_past (processor code) timed c p) ≡ side_of d p
+    pub other_side : (c d : ℕ) (p : Spot State) → c < 2 → d < 2 → c ≢ d → side_of d (spot_next (processor code) timed ms c p) ≡ side_of d p
     other_side zero zero p cs ds ne = absurd (ne refl)
     other_side zero (suc d) p cs ds ne = refl
     other_side (suc c) zero p cs ds ne = refl
@@ -220,31 +222,31 @@ module _ (code : ℕ → ℕ) where
 
     module _ (ps : List Place) where
       -- what a turn that meets nothing is
-      pub local_is_own : (c : ℕ) (s : Side State) → is_local code timed ps c s ≡ true → is_own_access ps c (next_of code s) ≡ true
-      local_is_own c s h = (and_parts (not (side_bars code timed s)) (is_own_access ps c (next_of code s)) (and_parts (not (s.left == 0)) (not (side_bars code timed s) && is_own_access ps c (next_of code s)) h).1).1
+      pub local_is_own : (c : ℕ) (s : Side State) → is_local code timed ms ps c s ≡ true → is_own_access ps c (next_of code s) ≡ true
+      local_is_own c s h = (and_parts (not (next_bars code timed ms s)) (is_own_access ps c (next_of code s)) (and_parts (not (s.left == 0)) (not (next_bars code timed ms s) && is_own_access ps c (next_of code s)) h).1).1
 
-      local_is_free : (c : ℕ) (s : Side State) → is_local code timed ps c s ≡ true → not (side_bars code timed s) ≡ true
-      local_is_free c s h = (and_parts (not (side_bars code timed s)) (is_own_access ps c (next_of code s)) (and_parts (not (s.left == 0)) (not (side_bars code timed s) && is_own_access ps c (next_of code s)) h).1).0
+      local_is_free : (c : ℕ) (s : Side State) → is_local code timed ms ps c s ≡ true → not (next_bars code timed ms s) ≡ true
+      local_is_free c s h = (and_parts (not (next_bars code timed ms s)) (is_own_access ps c (next_of code s)) (and_parts (not (s.left == 0)) (not (next_bars code timed ms s) && is_own_access ps c (next_of code s)) h).1).0
 
-      pub local_bars_none : (c : ℕ) (s : Side State) → is_local code timed ps c s ≡ true → side_bars code timed s ≡ false
-      local_bars_none c s h = is_free (side_bars code timed s) (local_is_free c s h)
+      pub local_bars_none : (c : ℕ) (s : Side State) → is_local code timed ms ps c s ≡ true → next_bars code timed ms s ≡ false
+      local_bars_none c s h = is_free (next_bars code timed ms s) (local_is_free c s h)
 
       -- what an allowed turn is
-      pub allowed_is_told : (c : ℕ) (s : Side State) → is_allowed code timed ps c s ≡ true → is_told code ps c s ≡ true
-      allowed_is_told c s h = (and_parts (is_told code ps c s) (not (side_bars code timed s)) h).0
+      pub allowed_is_told : (c : ℕ) (s : Side State) → is_allowed code timed ms ps c s ≡ true → is_told code ps c s ≡ true
+      allowed_is_told c s h = (and_parts (is_told code ps c s) (not (next_bars code timed ms s)) h).0
 
-      pub allowed_bars_none : (c : ℕ) (s : Side State) → is_allowed code timed ps c s ≡ true → side_bars code timed s ≡ false
-      allowed_bars_none c s h = is_free (side_bars code timed s) (and_parts (is_told code ps c s) (not (side_bars code timed s)) h).1
+      pub allowed_bars_none : (c : ℕ) (s : Side State) → is_allowed code timed ms ps c s ≡ true → next_bars code timed ms s ≡ false
+      allowed_bars_none c s h = is_free (next_bars code timed ms s) (and_parts (is_told code ps c s) (not (next_bars code timed ms s)) h).1
 
       allowed_when : (a b : Bool) → a ≡ true → b ≡ false → (a && not b) ≡ true
       allowed_when true false h i = refl
       allowed_when true true h i = absurd cc
       allowed_when false b h i = absurd cc
 
-      pub told_and_free : (c : ℕ) (s : Side State) → is_told code ps c s ≡ true → side_bars code timed s ≡ false → is_allowed code timed ps c s ≡ true
-      told_and_free c s h i = allowed_when (is_told code ps c s) (side_bars code timed s) h i
+      pub told_and_free : (c : ℕ) (s : Side State) → is_told code ps c s ≡ true → next_bars code timed ms s ≡ false → is_allowed code timed ms ps c s ≡ true
+      told_and_free c s h i = allowed_when (is_told code ps c s) (next_bars code timed ms s) h i
 
-      pub local_is_allowed : (c : ℕ) (s : Side State) → c < 2 → is_local code timed ps c s ≡ true → is_allowed code timed ps c s ≡ true
+      pub local_is_allowed : (c : ℕ) (s : Side State) → c < 2 → is_local code timed ms ps c s ≡ true → is_allowed code timed ms ps c s ≡ true
       local_is_allowed c s small h = told_and_free c s (own_may ps c (next_of code s) (local_is_own c s h)) (local_bars_none c s h)
 
       sides_apart : (c d n k : ℕ) (s t : State) → c < 2 → d < 2 → c ≢ d
@@ -256,8 +258,8 @@ module _ (code : ℕ → ℕ) where
           (subst (λ (b : Bool). is_own_access ps c (if b then None else demand code s) ≡ true) (no_zero n) own)
           (subst (λ (b : Bool). may_access ps d (if b then None else demand code t) ≡ true) (no_zero k) may)
 
-      pub spots_commute : (c d : ℕ) (p : Spot State) → HasSizes p.memory → c < 2 → d < 2 → c ≢ d → is_local code timed ps c (side_of c p) ≡ true → is_allowed code timed ps d (side_of d p) ≡ true
-          → spot_past (processor code) timed d (spot_past (processor code) timed c p) ≡ spot_past (processor code) timed c (spot_past (processor code) timed d p)
+      pub spots_commute : (c d : ℕ) (p : Spot State) → HasSizes p.memory → c < 2 → d < 2 → c ≢ d → is_local code timed ms ps c (side_of c p) ≡ true → is_allowed code timed ms ps d (side_of d p) ≡ true
+          → spot_next (processor code) timed ms d (spot_next (processor code) timed ms c p) ≡ spot_next (processor code) timed ms c (spot_next (processor code) timed ms d p)
       spots_commute zero zero p z cs ds ne own may = absurd (ne refl)
       spots_commute zero (suc d) p z cs ds ne own may =
           swapped_spots p z (sides_apart 0 (suc d) p.side0.left p.side1.left p.side0.state p.side1.state cs ds ne (local_is_own 0 p.side0 own) (allowed_is_told (suc d) p.side1 may))

@@ -18,16 +18,17 @@ use Rattle.xt_exec.specs.State.{State}
 use Rattle.xt_core.specs.Runs.{code_of, memory_of, opening_of}
 use Rattle.xt_outcomes.specs.Endings.{has_ended}
 use Rattle.xt_outcomes.specs.KeptWorlds.{Leads, spot_of}
+use Rattle.xt_outcomes.specs.Nexts.{spot_next}
 use Rattle.xt_outcomes.specs.Orders.{given_turns, with_turns, world_after}
 use Rattle.xt_outcomes.specs.Outcomes.{CanAllEnd, IsStuck, have_ended}
 use Rattle.xt_outcomes.specs.Searched.{IsComplete, IsFoundBy, IsSearch, kept_after}
-use Rattle.xt_outcomes.specs.Spots.{Spot, spot_past}
+use Rattle.xt_outcomes.specs.Spots.{Spot}
 use Rattle.xt_outcomes.specs.declared.found.Search.{Search}
 use Rattle.xt_outcomes.specs.declared.world.World.{World as KeptWorld}
 use Rattle.xt_outcomes.proofs.CodeBytes.{memory_sizes}
 use Rattle.xt_outcomes.proofs.Commuted.{past_sizes}
 use Rattle.xt_outcomes.proofs.Covering.{order_more, runs_reach, stuck_turns}
-use Rattle.xt_outcomes.proofs.Finding.{all_turned, carried, ended_same, first_spot, meets_orders, spot_by, told_kept}
+use Rattle.xt_outcomes.proofs.Finding.{all_turned, carried, ended_same, first_spot, meets_orders, told_kept}
 
 -- ---- any list of numbers as an order of two cores
 
@@ -83,22 +84,22 @@ there (x ∷ ks) (suc k) h = there ks k (let g : suc k < suc (length ks) = h in 
 module _ (image : Image) (o : Options) (s : Search) (h : IsSearch image o s) (complete : IsComplete s) where
   -- both have ended after the order, what comes first after it, and the turns then
   after_both : (order turns : List ℕ) (w : KeptWorld) → IsOrder order → IsOrder turns → spot_of (memory_of image o) w ≡ kept_after image o s order
-      → after (spot_past (processor (code_of image)) s.machine.timed) turns (spot_of (memory_of image o) w) ≡ kept_after image o s (order ++ turns)
+      → after (spot_next (processor (code_of image)) s.machine.timed s.machine.dead.masks.items) turns (spot_of (memory_of image o) w) ≡ kept_after image o s (order ++ turns)
   after_both order turns w is more e =
-      let step = spot_past (processor (code_of image)) s.machine.timed in
+      let step = spot_next (processor (code_of image)) s.machine.timed s.machine.dead.masks.items in
       ap (after step turns) (e ∙ sym (all_turned image o s h complete order is))
       ∙ sym (after_append step order turns (first_spot image o s h))
       ∙ all_turned image o s h complete (order ++ turns) (order_more order turns is more)
 
-  after_sizes : (order : List ℕ) (p : Spot State) → HasSizes p.memory → HasSizes (after (spot_past (processor (code_of image)) s.machine.timed) order p).memory
+  after_sizes : (order : List ℕ) (p : Spot State) → HasSizes p.memory → HasSizes (after (spot_next (processor (code_of image)) s.machine.timed s.machine.dead.masks.items) order p).memory
   after_sizes [] p z = z
-  after_sizes (c ∷ cs) p z = after_sizes cs (spot_past (processor (code_of image)) s.machine.timed c p) (past_sizes (code_of image) s.machine.timed c p z)
+  after_sizes (c ∷ cs) p z = after_sizes cs (spot_next (processor (code_of image)) s.machine.timed s.machine.dead.masks.items c p) (past_sizes (code_of image) s.machine.timed s.machine.dead.masks.items c p z)
 
   module _ (marks : List Bool)
-      (are : AreMarks (Leads (constant_byte s.machine.code) s.machine.timed s.machine.places.list.items s.machine.most_local s.machine.opening.contents) (λ w. has_ended (spot_of (memory_of image o) w)) s.graph marks) where
-    marked : AreMarks (Leads (code_of image) s.machine.timed s.machine.places.list.items s.machine.most_local (memory_of image o)) (λ w. has_ended (spot_of (memory_of image o) w)) s.graph marks
+      (are : AreMarks (Leads (constant_byte s.machine.code) s.machine.timed s.machine.dead.masks.items s.machine.places.list.items s.machine.most_local s.machine.opening.contents) (λ w. has_ended (spot_of (memory_of image o) w)) s.graph marks) where
+    marked : AreMarks (Leads (code_of image) s.machine.timed s.machine.dead.masks.items s.machine.places.list.items s.machine.most_local (memory_of image o)) (λ w. has_ended (spot_of (memory_of image o) w)) s.graph marks
     marked =
-        carried (λ k n. AreMarks (Leads k s.machine.timed s.machine.places.list.items s.machine.most_local n) (λ w. has_ended (spot_of (memory_of image o) w)) s.graph marks)
+        carried (λ k n. AreMarks (Leads k s.machine.timed s.machine.dead.masks.items s.machine.places.list.items s.machine.most_local n) (λ w. has_ended (spot_of (memory_of image o) w)) s.graph marks)
         s.machine.code image.segments s.machine.opening.contents (memory_of image o) h.code h.opening are
 
     pub all_can_end : ((k : ℕ) → k < length marks → slice_get marks k ≡ Some true) → CanAllEnd (processor (code_of image)) s.machine.timed (opening_of image o)
@@ -111,7 +112,7 @@ module _ (image : Image) (o : Options) (s : Search) (h : IsSearch image o s) (co
         let long : length marks ≡ length s.graph.kept.items = marked.as_long in
         let less : r.0 < length s.graph.kept.items = at_within s.graph.kept.items r.0 r.1 r.2 in
         let c = marked.can_end r.0 r.1 (all r.0 (omega arith)) r.2 in
-        let t = runs_reach (code_of image) timed s.machine.places.list.items s.machine.most_local (memory_of image o) c.0 r.1 c.1 c.2 c.3 in
+        let t = runs_reach (code_of image) timed s.machine.dead.masks.items s.machine.places.list.items s.machine.most_local (memory_of image o) c.0 r.1 c.1 c.2 c.3 in
         let e = after_both (order ++ met.more) t.turns r.1 (order_more order met.more is met.is_order) t.is_order r.3 in
         let f : have_ended timed (world_after P timed oo ((order ++ met.more) ++ t.turns)) ≡ true =
         sym (ended_same timed (world_after P timed oo ((order ++ met.more) ++ t.turns))) ∙ ap has_ended (sym (t.same ∙ e)) ∙ c.4
@@ -134,7 +135,7 @@ module _ (image : Image) (o : Options) (s : Search) (h : IsSearch image o s) (co
         let z : HasSizes (spot_of m w.0).memory =
         subst (λ (p : Spot State). HasSizes p.memory) (all_turned image o s h complete order is ∙ sym e) (after_sizes order (first_spot image o s h) (memory_sizes image o))
         in
-        let st = stuck_turns (code_of image) timed s.machine.places.list.items s.machine.most_local m s.graph h.graph complete.whole (told_kept image o s h complete.allowed)
+        let st = stuck_turns (code_of image) timed s.machine.dead.masks.items s.machine.places.list.items s.machine.most_local m s.graph h.graph complete.whole (told_kept image o s h complete.allowed)
         k w.0 z w.1 (marked.stuck k w.0 unmarked w.1) (as_order more) (is_order more)
         in
         let f = after_both order (as_order more) w.0 is (is_order more) e in

@@ -2,10 +2,16 @@ pub mod Spotted
 pub mod Equal
 pub mod Turned
 pub mod Untimed
+pub mod Reading
+pub mod Clearing
+pub mod Forgetting
+pub mod NoneDead
+pub mod Fitting
 pub mod CodeBytes
 pub mod Commuted
 pub mod Covering
 pub mod Spreading
+pub mod Resting
 pub mod Moving
 pub mod Finding
 pub mod Comparing

@@ -1,20 +1,21 @@
 -- A search that keeps so many worlds has found orders that lead to as many states.
-use Rattle.std.proofs.Common.{◌≡◌, ℕ, suc, ◌<◌, ◌≤◌, List, [], ◌∷◌, length, sym, ap, ◌∙◌, subst, arith}
+use Rattle.std.proofs.Common.{◌≡◌, ℕ, ◌<◌, ◌≤◌, List, [], ◌∷◌, length, sym, ap, ◌∙◌, subst, arith}
 use Rattle.xt_map.specs.declared.contents.MemoryContents.{MemoryContents}
 use Rattle.xt_image.specs.declared.image.Image.{Image}
 use Rattle.xt_search.specs.Graphs.{IsAt}
 use Rattle.xt_search.specs.Worlds.{IsOrder, Reaches}
 use Rattle.xt_search.proofs.Endings.{some_at}
 use Rattle.xt_search.proofs.Numbers.{at_kept}
-use Rattle.xt_changes.specs.Changed.{ChangesState, IsLean, contents_of}
+use Rattle.xt_changes.specs.Changed.{IsLean}
 use Rattle.xt_changes.proofs.Leaning.{lean_same}
 use Rattle.xt_trace.specs.declared.options.Options.{Options}
 use Rattle.xt_exec.specs.State.{State}
 use Rattle.xt_core.specs.Runs.{code_of, memory_of, opening_of}
+use Rattle.xt_outcomes.specs.Dead.{spot_forgotten}
 use Rattle.xt_outcomes.specs.KeptWorlds.{Leads, spot_of}
 use Rattle.xt_outcomes.specs.Marks.{IsSameWorld}
 use Rattle.xt_outcomes.specs.Searched.{IsSearch, kept_after}
-use Rattle.xt_outcomes.specs.Spots.{Side, Spot}
+use Rattle.xt_outcomes.specs.Spots.{Spot}
 use Rattle.xt_outcomes.specs.States.{LeadToMany}
 use Rattle.xt_outcomes.specs.declared.found.Search.{Search}
 use Rattle.xt_outcomes.specs.declared.world.World.{World}
@@ -24,7 +25,7 @@ use Rattle.xt_outcomes.proofs.Using.{ordered}
 
 module _ (image : Image) (o : Options) (s : Search) (h : IsSearch image o s) where
   abbrev L : ℕ → World → World → Type 0
-  L = Leads (code_of image) s.machine.timed s.machine.places.list.items s.machine.most_local (memory_of image o)
+  L = Leads (code_of image) s.machine.timed s.machine.dead.masks.items s.machine.places.list.items s.machine.most_local (memory_of image o)
 
   abbrev m : MemoryContents
   m = memory_of image o
@@ -61,5 +62,5 @@ module _ (image : Image) (o : Options) (s : Search) (h : IsSearch image o s) whe
         is_order = λ k less. (to k less).1;
         differ = λ j k a b less e.
             h.distinct j k (at j a).0 (at k b).0 less (at j a).1 (at k b).1
-            (same_world (at j a).0 (at k b).0 ((to j a).2 ∙ e ∙ sym (to k b).2) (to j a).3 (to k b).3);
+            (same_world (at j a).0 (at k b).0 ((to j a).2 ∙ ap (spot_forgotten s.machine.dead.masks.items) e ∙ sym (to k b).2) (to j a).3 (to k b).3);
       }

@@ -29,8 +29,10 @@ use Rattle.xt_race.specs.declared.event.Synchronization.{Synchronization}
 use Rattle.xt_race.specs.Clashes.{clash}
 use Rattle.xt_race.specs.Races.{has_stored, order_of, writes}
 use Rattle.xt_race.proofs.Concluding.{clash_from, clash_is}
+use Rattle.xt_outcomes.specs.Dead.{spot_forgotten}
 use Rattle.xt_outcomes.specs.KeptWorlds.{spot_of}
 use Rattle.xt_outcomes.specs.NextRaces.{IsNextRace, next_access, next_event}
+use Rattle.xt_outcomes.specs.Nexts.{next_bars}
 use Rattle.xt_outcomes.specs.Places.{is_allowed, is_local, is_own_access, may_access}
 use Rattle.xt_outcomes.specs.Orders.{world_after}
 use Rattle.xt_outcomes.specs.Searched.{IsFoundBy, IsKeptAfter, IsMet, IsSearch, kept_after}
@@ -40,6 +42,7 @@ use Rattle.xt_outcomes.specs.declared.found.Search.{Search}
 use Rattle.xt_outcomes.specs.declared.places.Place.{Place}
 use Rattle.xt_outcomes.specs.declared.world.World.{World as KeptWorld}
 use Rattle.xt_outcomes.proofs.Commuted.{allowed_bars_none, allowed_is_told, local_is_own, next_served, own_and_other, turned_apart}
+use Rattle.xt_outcomes.proofs.Forgetting.{free_forgetting, next_forgetting}
 use Rattle.xt_outcomes.proofs.Untimed.{side_free}
 
 pc_of_turn : (code : ℕ → ℕ) (s : State) (reply : ℕ) → (turn code s reply).0.pc ≡ s.control.pc
@@ -89,28 +92,57 @@ module _ (code : ℕ → ℕ) (bytes : AreBytes code) where
       (λ (e : uses_time code k.state ≡ false). sym (same_demand code k.state (without_time k.state) (turns_alike code bytes k.state e))) (side_free code bytes k h))
 
   -- the next turns of both cores use no time
-  abbrev pub AreFree : (timed : Bool) → Spot State → Type 0
-  AreFree timed p = (side_bars code timed p.side0 ≡ false) × (side_bars code timed p.side1 ≡ false)
+  abbrev UseNone : (timed : Bool) → Spot State → Type 0
+  UseNone timed p = (side_bars code timed p.side0 ≡ false) × (side_bars code timed p.side1 ≡ false)
 
-  pub race_of_spot : (timed : Bool) (w : World State) (a b : Access) → AreFree timed (spot_in timed w) → IsSpotRace code (spot_in timed w) a b → IsNextRace code timed w a b
+  race_of_spot : (timed : Bool) (w : World State) (a b : Access) → UseNone timed (spot_in timed w) → IsSpotRace code (spot_in timed w) a b → IsNextRace code timed w a b
   race_of_spot timed w a b free h = record {
     next0 = sym (next_same timed w.core0 free.0) ∙ h.next0;
     next1 = sym (next_same timed w.core1 free.1) ∙ h.next1;
     conflict = clash_is (next_event code 0 w.core0 w.line a) (next_event code 1 w.core1 w.line b) (same_clash code timed w a b ∙ h.clash);
   }
 
-  pub spot_of_race : (timed : Bool) (w : World State) (a b : Access) → AreFree timed (spot_in timed w) → IsNextRace code timed w a b → IsSpotRace code (spot_in timed w) a b
+  spot_of_race : (timed : Bool) (w : World State) (a b : Access) → UseNone timed (spot_in timed w) → IsNextRace code timed w a b → IsSpotRace code (spot_in timed w) a b
   spot_of_race timed w a b free h = record {
     next0 = next_same timed w.core0 free.0 ∙ h.next0;
     next1 = next_same timed w.core1 free.1 ∙ h.next1;
     clash = sym (same_clash code timed w a b) ∙ clash_from (next_event code 0 w.core0 w.line a) (next_event code 1 w.core1 w.line b) h.conflict;
   }
 
+  module _ (ms : List ℕ) where
+    -- the next turns of both cores use no time, and fit
+    abbrev pub AreFree : (timed : Bool) → Spot State → Type 0
+    AreFree timed p = (next_bars code timed ms p.side0 ≡ false) × (next_bars code timed ms p.side1 ≡ false)
+
+    pub race_of_kept : (timed : Bool) (w : World State) (a b : Access) → AreFree timed (spot_forgotten ms (spot_in timed w)) → IsSpotRace code (spot_forgotten ms (spot_in timed w)) a b → IsNextRace code timed w a b
+    race_of_kept timed w a b free h =
+        let q = spot_in timed w in
+        let f = free_forgetting code ms timed 0 q free.0 in
+        let g = free_forgetting code ms timed 1 q free.1 in
+        race_of_spot timed w a b (f.0, g.0)
+        (record {
+          next0 = sym (next_forgetting code ms timed q.side0 f.1) ∙ h.next0;
+          next1 = sym (next_forgetting code ms timed q.side1 g.1) ∙ h.next1;
+          clash = h.clash;
+        })
+
+    pub kept_of_race : (timed : Bool) (w : World State) (a b : Access) → AreFree timed (spot_forgotten ms (spot_in timed w)) → IsNextRace code timed w a b → IsSpotRace code (spot_forgotten ms (spot_in timed w)) a b
+    kept_of_race timed w a b free h =
+        let q = spot_in timed w in
+        let f = free_forgetting code ms timed 0 q free.0 in
+        let g = free_forgetting code ms timed 1 q free.1 in
+        let r = spot_of_race timed w a b (f.0, g.0) h in
+        record {
+          next0 = next_forgetting code ms timed q.side0 f.1 ∙ r.next0;
+          next1 = next_forgetting code ms timed q.side1 g.1 ∙ r.next1;
+          clash = r.clash;
+        }
+
 -- ---- what was searched
 
 module _ (image : Image) (o : Options) (s : Search) (h : IsSearch image o s) where
   -- the next turns of a world of which the next ones are known use no time
-  pub are_free : (k : ℕ) (w : KeptWorld) → k < length s.graph.nexts.items → IsAt s.graph.kept.items k w → AreFree (code_of image) h.bytes s.machine.timed (spot_of (memory_of image o) w)
+  pub are_free : (k : ℕ) (w : KeptWorld) → k < length s.graph.nexts.items → IsAt s.graph.kept.items k w → AreFree (code_of image) h.bytes s.machine.dead.masks.items s.machine.timed (spot_of (memory_of image o) w)
   are_free k w less at =
       let n = some_at s.graph.nexts.items k less in
       let both = h.graph.nexts k n.0 w n.1 at in
@@ -121,8 +153,8 @@ module _ (image : Image) (o : Options) (s : Search) (h : IsSearch image o s) whe
       → IsSpotRace (code_of image) (spot_of (memory_of image o) w) a b → IsNextRace (code_of image) s.machine.timed (world_after (processor (code_of image)) s.machine.timed (opening_of image o) order) a b
   race_found k w order a b less at found race =
       let e = found w at in
-      race_of_spot (code_of image) h.bytes s.machine.timed (world_after (processor (code_of image)) s.machine.timed (opening_of image o) order) a b
-      (subst (AreFree (code_of image) h.bytes s.machine.timed) e (are_free k w less at)) (subst (λ (p : Spot State). IsSpotRace (code_of image) p a b) e race)
+      race_of_kept (code_of image) h.bytes s.machine.dead.masks.items s.machine.timed (world_after (processor (code_of image)) s.machine.timed (opening_of image o) order) a b
+      (subst (AreFree (code_of image) h.bytes s.machine.dead.masks.items s.machine.timed) e (are_free k w less at)) (subst (λ (p : Spot State). IsSpotRace (code_of image) p a b) e race)
 
 -- ---- a race after an order, where the search branches only where turns meet
 
@@ -147,23 +179,23 @@ apart_is_quiet x y h e =
     ⊎_elim (λ (w : writes x ≡ true). not_of_load x.entry.access.kind x.entry.reply l.0 w) (λ (w : writes y ≡ true). not_of_load y.entry.access.kind y.entry.reply l.1 w) (or_cases (writes x) (writes y) k.writing))
     h
 
-module _ (code : ℕ → ℕ) (timed : Bool) (ps : List Place) (p : Spot State) (a b : Access) (h : IsSpotRace code p a b) where
+module _ (code : ℕ → ℕ) (timed : Bool) (ms : List ℕ) (ps : List Place) (p : Spot State) (a b : Access) (h : IsSpotRace code p a b) where
   -- so both next turns may meet something
-  race_meets0 : is_allowed code timed ps 1 p.side1 ≡ true → is_local code timed ps 0 p.side0 ≡ true → ⊥
+  race_meets0 : is_allowed code timed ms ps 1 p.side1 ≡ true → is_local code timed ms ps 0 p.side0 ≡ true → ⊥
   race_meets0 may own =
       let t = own_and_other ps 0 1 (Some a) (Some b) (omega arith) (omega arith) (λ e. absurd cc)
       (subst IsServed h.next0 (next_served code p.side0)) (subst IsServed h.next1 (next_served code p.side1))
-      (subst (λ (x : Option Access). is_own_access ps 0 x ≡ true) h.next0 (local_is_own code timed ps 0 p.side0 own))
-      (subst (λ (x : Option Access). may_access ps 1 x ≡ true) h.next1 (allowed_is_told code timed ps 1 p.side1 may))
+      (subst (λ (x : Option Access). is_own_access ps 0 x ≡ true) h.next0 (local_is_own code timed ms ps 0 p.side0 own))
+      (subst (λ (x : Option Access). may_access ps 1 x ≡ true) h.next1 (allowed_is_told code timed ms ps 1 p.side1 may))
       in
       apart_is_quiet (event_at code 0 p.side0 p.memory a) (event_at code 1 p.side1 p.memory b) t.2 h.clash
 
-  race_meets1 : is_allowed code timed ps 0 p.side0 ≡ true → is_local code timed ps 1 p.side1 ≡ true → ⊥
+  race_meets1 : is_allowed code timed ms ps 0 p.side0 ≡ true → is_local code timed ms ps 1 p.side1 ≡ true → ⊥
   race_meets1 may own =
       let t = own_and_other ps 1 0 (Some b) (Some a) (omega arith) (omega arith) (λ e. absurd cc)
       (subst IsServed h.next1 (next_served code p.side1)) (subst IsServed h.next0 (next_served code p.side0))
-      (subst (λ (x : Option Access). is_own_access ps 1 x ≡ true) h.next1 (local_is_own code timed ps 1 p.side1 own))
-      (subst (λ (x : Option Access). may_access ps 0 x ≡ true) h.next0 (allowed_is_told code timed ps 0 p.side0 may))
+      (subst (λ (x : Option Access). is_own_access ps 1 x ≡ true) h.next1 (local_is_own code timed ms ps 1 p.side1 own))
+      (subst (λ (x : Option Access). may_access ps 0 x ≡ true) h.next0 (allowed_is_told code timed ms ps 0 p.side0 may))
       in
       apart_is_quiet (event_at code 0 p.side0 p.memory a) (event_at code 1 p.side1 p.memory b) (turned_apart b a t.2) h.clash
 
@@ -171,12 +203,12 @@ module _ (image : Image) (o : Options) (s : Search) (order : List ℕ) (met : Is
   pub race_is_kept_after : (a b : Access) → IsSpotRace (code_of image) (kept_after image o s order) a b → IsKeptAfter image o s order
   race_is_kept_after a b h =
       let p = kept_after image o s order in
-      met.exact (race_meets0 (code_of image) s.machine.timed s.machine.places.list.items p a b h met.allowed1) (race_meets1 (code_of image) s.machine.timed s.machine.places.list.items p a b h met.allowed0)
+      met.exact (race_meets0 (code_of image) s.machine.timed s.machine.dead.masks.items s.machine.places.list.items p a b h met.allowed1) (race_meets1 (code_of image) s.machine.timed s.machine.dead.masks.items s.machine.places.list.items p a b h met.allowed0)
 
   -- the next turns after the order use no time
-  pub free_after : (bytes : AreBytes (code_of image)) → AreFree (code_of image) bytes s.machine.timed (kept_after image o s order)
+  pub free_after : (bytes : AreBytes (code_of image)) → AreFree (code_of image) bytes s.machine.dead.masks.items s.machine.timed (kept_after image o s order)
   free_after bytes =
       let p = kept_after image o s order in (
-        allowed_bars_none (code_of image) s.machine.timed s.machine.places.list.items 0 p.side0 met.allowed0,
-        allowed_bars_none (code_of image) s.machine.timed s.machine.places.list.items 1 p.side1 met.allowed1,
+        allowed_bars_none (code_of image) s.machine.timed s.machine.dead.masks.items s.machine.places.list.items 0 p.side0 met.allowed0,
+        allowed_bars_none (code_of image) s.machine.timed s.machine.dead.masks.items s.machine.places.list.items 1 p.side1 met.allowed1,
       )

@@ -6,8 +6,9 @@ use Rattle.xt_search.specs.Worlds.{IsOrder}
 use Rattle.xt_search.proofs.Meeting.{after_append}
 use Rattle.xt_exec.specs.Chips.{processor}
 use Rattle.xt_exec.specs.State.{State}
+use Rattle.xt_outcomes.specs.Nexts.{TurnsFit, next_bars, spot_next}
 use Rattle.xt_outcomes.specs.Places.{spot_run, turns_of}
-use Rattle.xt_outcomes.specs.Spots.{Spot, TurnsAreFree, side_bars, side_of, spot_past}
+use Rattle.xt_outcomes.specs.Spots.{Spot, side_of}
 use Rattle.xt_outcomes.specs.declared.places.Place.{Place}
 use Rattle.xt_outcomes.proofs.Covering.{RunsAreFree, free_append}
 
@@ -71,7 +72,7 @@ module _ {V : Type 0} where
   off_choice u v true e = absurd cc
   off_choice u v false e = refl
 
-  off_at : (test : V → Bool) (turn : V → V) (n : ℕ) (u : V) → test u ≡ false → onward test turn n u ≡ u
+  pub off_at : (test : V → Bool) (turn : V → V) (n : ℕ) (u : V) → test u ≡ false → onward test turn n u ≡ u
   off_at test turn zero u t = refl
   off_at test turn (suc n) u t = off_choice u (onward test turn n (turn u)) (test u) t
 
@@ -90,26 +91,26 @@ module _ {V : Type 0} where
 
 -- ---- turns that use no time
 
-module _ (code : ℕ → ℕ) (timed : Bool) where
+module _ (code : ℕ → ℕ) (timed : Bool) (dead : List ℕ) where
   module _ (ps : List Place) (n : ℕ) where
     -- the first of the runs that are left
-    pub first_free : (ms : List ℕ) (at x : ℕ) (u : Spot State) → slice_get ms at ≡ Some x → RunsAreFree code timed ps n (drop at ms) u → side_bars code timed (side_of x u) ≡ false
-    first_free ms at x u here h = (subst (λ (l : List ℕ). RunsAreFree code timed ps n l u) (drop_at ms at x here) h).0
+    pub first_free : (ms : List ℕ) (at x : ℕ) (u : Spot State) → slice_get ms at ≡ Some x → RunsAreFree code timed dead ps n (drop at ms) u → next_bars code timed dead (side_of x u) ≡ false
+    first_free ms at x u here h = (subst (λ (l : List ℕ). RunsAreFree code timed dead ps n l u) (drop_at ms at x here) h).0
 
     -- and those after it
-    pub rest_free : (ms : List ℕ) (at x : ℕ) (u v : Spot State) → slice_get ms at ≡ Some x → v ≡ spot_run code timed ps n x u → RunsAreFree code timed ps n (drop at ms) u → RunsAreFree code timed ps n (drop (at + 1) ms) v
+    pub rest_free : (ms : List ℕ) (at x : ℕ) (u v : Spot State) → slice_get ms at ≡ Some x → v ≡ spot_run code timed dead ps n x u → RunsAreFree code timed dead ps n (drop at ms) u → RunsAreFree code timed dead ps n (drop (at + 1) ms) v
     rest_free ms at x u v here e h =
         let g : suc at ≡ at + 1 = omega arith in
-        let rest = (subst (λ (l : List ℕ). RunsAreFree code timed ps n l u) (drop_at ms at x here) h).1 in
-        subst (λ (k : ℕ). RunsAreFree code timed ps n (drop k ms) v) g (subst (λ (p : Spot State). RunsAreFree code timed ps n (drop (suc at) ms) p) (sym e) rest)
+        let rest = (subst (λ (l : List ℕ). RunsAreFree code timed dead ps n l u) (drop_at ms at x here) h).1 in
+        subst (λ (k : ℕ). RunsAreFree code timed dead ps n (drop k ms) v) g (subst (λ (p : Spot State). RunsAreFree code timed dead ps n (drop (suc at) ms) p) (sym e) rest)
 
   -- so many turns more
-  pub free_more : (xs ys new : List ℕ) (u w : Spot State) → new ≡ xs ++ ys → u ≡ after (spot_past (processor code) timed) xs w → TurnsAreFree code timed xs w → TurnsAreFree code timed ys u → TurnsAreFree code timed new w
+  pub free_more : (xs ys new : List ℕ) (u w : Spot State) → new ≡ xs ++ ys → u ≡ after (spot_next (processor code) timed dead) xs w → TurnsFit code timed dead xs w → TurnsFit code timed dead ys u → TurnsFit code timed dead new w
   free_more xs ys new u w e f h k =
-      subst (λ (l : List ℕ). TurnsAreFree code timed l w) (sym e)
-      (free_append code timed xs ys w h (subst (λ (p : Spot State). TurnsAreFree code timed ys p) f k))
+      subst (λ (l : List ℕ). TurnsFit code timed dead l w) (sym e)
+      (free_append code timed dead xs ys w h (subst (λ (p : Spot State). TurnsFit code timed dead ys p) f k))
 
-  pub free_last : (c n : ℕ) (u w : Spot State) → u ≡ after (spot_past (processor code) timed) (turns_of c n) w → TurnsAreFree code timed (turns_of c n) w → side_bars code timed (side_of c u) ≡ false → TurnsAreFree code timed (turns_of c (n + 1)) w
+  pub free_last : (c n : ℕ) (u w : Spot State) → u ≡ after (spot_next (processor code) timed dead) (turns_of c n) w → TurnsFit code timed dead (turns_of c n) w → next_bars code timed dead (side_of c u) ≡ false → TurnsFit code timed dead (turns_of c (n + 1)) w
   free_last c n u w f h k =
       let e : n + 1 ≡ suc n = omega arith in
       free_more (turns_of c n) (c ∷ []) (turns_of c (n + 1)) u w (ap (turns_of c) e ∙ turns_last c n) f h (k, tt)

@@ -1,10 +1,10 @@
 -- The turn before which a search without time had to end uses time.
-use Rattle.std.proofs.Common.{◌≡◌, ℕ, zero, suc, ◌≤◌, Bool, true, false, cond, eqb, not, ◌&&◌, List, [], ◌∷◌, ◌++◌, refl, sym, ap, ◌∙◌, subst, arith}
+use Rattle.std.proofs.Common.{◌≡◌, ℕ, zero, suc, ◌<◌, ◌≤◌, Bool, true, false, cond, eqb, not, ◌&&◌, List, [], ◌∷◌, ◌++◌, refl, sym, ap, ◌∙◌, subst, arith}
 use Rattle.std.proofs.lemmas.Bool.{true≢false}
 use Rattle.xt_image.specs.declared.image.Image.{Image}
 use Rattle.xt_search.specs.declared.graph.Barred.{Barred}
 use Rattle.xt_search.specs.declared.graph.Graph.{Graph}
-use Rattle.xt_search.specs.Graphs.{IsAt, IsBarredAt, IsGraph, OpensWith}
+use Rattle.xt_search.specs.Graphs.{IsAt, IsGraph, OpensWith}
 use Rattle.xt_search.specs.Worlds.{IsOrder, Reaches}
 use Rattle.xt_search.proofs.Endings.{some_at}
 use Rattle.xt_search.proofs.Numbers.{at_kept, at_once, at_within}
@@ -18,8 +18,9 @@ use Rattle.xt_core.specs.Runs.{code_of, memory_of, opening_of}
 use Rattle.xt_timeless.specs.TimeLaws.{core_of}
 use Rattle.xt_timeless.specs.Time.{uses_time, without_time}
 use Rattle.xt_timeless.proofs.Turning.{uses_alike}
+use Rattle.xt_outcomes.specs.Dead.{fits, spot_forgotten}
 use Rattle.xt_outcomes.specs.Ended.{TimeIsUsed}
-use Rattle.xt_outcomes.specs.KeptWorlds.{Leads, bars, spot_of}
+use Rattle.xt_outcomes.specs.KeptWorlds.{Leads, spot_of}
 use Rattle.xt_outcomes.specs.Orders.{world_after}
 use Rattle.xt_outcomes.specs.Outcomes.{core_ended}
 use Rattle.xt_outcomes.specs.Searched.{IsSearch}
@@ -29,6 +30,7 @@ use Rattle.xt_outcomes.specs.declared.world.World.{World as KeptWorld}
 use Rattle.xt_outcomes.proofs.Continuing.{reaches_append}
 use Rattle.xt_outcomes.proofs.Covering.{order_more}
 use Rattle.xt_outcomes.proofs.Finding.{reached}
+use Rattle.xt_outcomes.proofs.Forgetting.{used_forgetting}
 
 -- ---- an order leads to each kept world
 
@@ -72,22 +74,33 @@ pc_same true (suc c) w = refl
 pc_same false zero w = refl
 pc_same false (suc c) w = refl
 
-pub time_used : (image : Image) (o : Options) (s : Search) → IsSearch image o s → (b : Barred) (pc : ℕ) → IsBarredAt (bars (code_of image) s.machine.timed (memory_of image o)) s.graph.kept.items b
-    → ((w : KeptWorld) → IsAt s.graph.kept.items b.from w → pc ≡ (side_of b.core (spot_of (memory_of image o) w)).state.control.pc) → TimeIsUsed (code_of image) s.machine.timed (opening_of image o) b.core pc
-time_used image o s h b pc barred at =
+pc_forgotten : (ms : List ℕ) (c : ℕ) (q : Spot State) → (side_of c (spot_forgotten ms q)).state.control.pc ≡ (side_of c q).state.control.pc
+pc_forgotten ms zero q = refl
+pc_forgotten ms (suc c) q = refl
+
+pub time_used : (image : Image) (o : Options) (s : Search) → IsSearch image o s → (b : Barred) (pc : ℕ) (w : KeptWorld) → IsAt s.graph.kept.items b.from w → b.core < 2
+    → side_bars (code_of image) s.machine.timed (side_of b.core (spot_of (memory_of image o) w)) ≡ true → fits (code_of image) s.machine.dead.masks.items (side_of b.core (spot_of (memory_of image o) w)).state ≡ true
+    → pc ≡ (side_of b.core (spot_of (memory_of image o) w)).state.control.pc → TimeIsUsed (code_of image) s.machine.timed (opening_of image o) b.core pc
+time_used image o s h b pc w there core bars fit at =
     let code = code_of image in
     let timed = s.machine.timed in
-    let r = ordered (Leads code timed s.machine.places.list.items s.machine.most_local (memory_of image o)) s.graph h.graph h.first.0 h.first.1 b.from b.from (omega arith) barred.0 barred.1 in
-    let t = reached image o s h r.0 barred.0 r.1 r.2 in
+    let ms = s.machine.dead.masks.items in
+    let r = ordered (Leads code timed ms s.machine.places.list.items s.machine.most_local (memory_of image o)) s.graph h.graph h.first.0 h.first.1 b.from b.from (omega arith) w there in
+    let t = reached image o s h r.0 w r.1 r.2 in
     let after = world_after (processor code) timed (opening_of image o) t.0 in
     let e = t.2 in
-    let u = used code h.bytes timed b.core after (ap (λ (p : Spot State). side_bars code timed (side_of b.core p)) (sym e) ∙ barred.3) in
+    let kept = spot_in timed after in
+    let u = used code h.bytes timed b.core after
+    (used_forgetting code ms timed b.core kept
+    (ap (λ (p : Spot State). side_bars code timed (side_of b.core p)) (sym e) ∙ bars)
+    (ap (λ (p : Spot State). fits code ms (side_of b.core p).state) (sym e) ∙ fit))
+    in
     record {
       order = t.0;
       is_order = t.1;
-      is_core = barred.2;
+      is_core = core;
       untimed = u.0;
       going = u.1;
-      at = sym (at barred.0 barred.1 ∙ ap (λ (p : Spot State). (side_of b.core p).state.control.pc) e ∙ pc_same timed b.core after);
+      at = sym (at ∙ ap (λ (p : Spot State). (side_of b.core p).state.control.pc) e ∙ pc_forgotten ms b.core kept ∙ pc_same timed b.core after);
       uses = u.2;
     }

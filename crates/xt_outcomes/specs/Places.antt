@@ -11,8 +11,9 @@ use Rattle.xt_map.specs.Touching.{is_load}
 use Rattle.xt_exec.specs.Chips.{processor}
 use Rattle.xt_exec.specs.State.{State}
 use Rattle.xt_search.specs.Meetings.{run}
+use Rattle.xt_outcomes.specs.Nexts.{next_bars, spot_next}
 use Rattle.xt_outcomes.specs.SpotRaces.{next_of}
-use Rattle.xt_outcomes.specs.Spots.{Side, Spot, side_bars, side_of, spot_past}
+use Rattle.xt_outcomes.specs.Spots.{Side, Spot, side_of}
 use Rattle.xt_outcomes.specs.declared.places.Place.{Place}
 use Rattle.xt_outcomes.specs.declared.places.Place.TheVariants as place
 
@@ -51,24 +52,28 @@ abbrev pub may_access : List Place → ℕ → Option Access → Bool
 may_access ps c None = true
 may_access ps c (Some a) = may_come c (place_of ps a) a.kind
 
--- the core has a turn left, which uses no time and meets nothing of the other core
-abbrev pub is_local : (code : ℕ → ℕ) (timed : Bool) → List Place → ℕ → Side State → Bool
-is_local code timed ps c s =
-    not (s.left == 0) && (not (side_bars code timed s) && is_own_access ps c (next_of code s))
+-- the core has a turn left, which uses no time, fits, and meets nothing of the other core
+abbrev pub is_local :
+    (code : ℕ → ℕ) (timed : Bool) → List ℕ → List Place → ℕ → Side State → Bool
+is_local code timed ms ps c s =
+    not (s.left == 0)
+    && (not (next_bars code timed ms s) && is_own_access ps c (next_of code s))
 
 -- the places tell of the core's next turn
 abbrev pub is_told : (code : ℕ → ℕ) → List Place → ℕ → Side State → Bool
 is_told code ps c s = may_access ps c (next_of code s)
 
--- they do, and the turn uses no time
-abbrev pub is_allowed : (code : ℕ → ℕ) (timed : Bool) → List Place → ℕ → Side State → Bool
-is_allowed code timed ps c s = is_told code ps c s && not (side_bars code timed s)
+-- they do, and the turn uses no time and fits
+abbrev pub is_allowed :
+    (code : ℕ → ℕ) (timed : Bool) → List ℕ → List Place → ℕ → Side State → Bool
+is_allowed code timed ms ps c s = is_told code ps c s && not (next_bars code timed ms s)
 
 -- a turn of the core, and then its turns that meet nothing, at most so many
 abbrev pub spot_run :
-    (code : ℕ → ℕ) (timed : Bool) → List Place → ℕ → ℕ → Spot State → Spot State
-spot_run code timed ps n c p =
-    run (spot_past (processor code) timed) (λ d q. is_local code timed ps d (side_of d q)) n c p
+    (code : ℕ → ℕ) (timed : Bool) → List ℕ → List Place → ℕ → ℕ → Spot State → Spot State
+spot_run code timed ms ps n c p =
+    run (spot_next (processor code) timed ms) (λ d q. is_local code timed ms ps d (side_of d q)) n
+    c p
 
 -- so many turns of the core
 abbrev pub turns_of : ℕ → ℕ → List ℕ

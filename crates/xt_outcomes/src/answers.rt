@@ -8,21 +8,15 @@ ghost use Rattle.xt_exec.specs.Chips.{processor};
 ghost use Rattle.xt_core.specs.Runs.{code_of, opening_of};
 ghost use Rattle.xt_search.specs.Worlds.{IsOrder};
 ghost use Rattle.xt_outcomes.specs.Answered.{AreAnswers};
-ghost use Rattle.xt_map.specs.declared.contents.MemoryContents.{MemoryContents};
-ghost use Rattle.xt_outcomes.specs.Ended.{IsEnding};
-ghost use Rattle.xt_outcomes.specs.KeptWorlds.{spot_of};
 ghost use Rattle.xt_outcomes.specs.Outcomes.{CanAllEnd, IsStuck};
-ghost use Rattle.xt_outcomes.specs.Spots.{side_of};
 ghost use Rattle.xt_outcomes.specs.declared.answers.Ending.TheVariants.{All};
-ghost use Rattle.xt_outcomes.specs.Searched.{HasEnded, IsComplete, IsSearch};
+ghost use Rattle.xt_outcomes.specs.Searched.{IsComplete, IsSearch};
 
 use crate::found::Search;
 use crate::listing::{Found, outcomes_of};
-use crate::meeting::{is_whole, search_orders};
+use crate::meeting::search_orders;
 use crate::races::{NextRace, race_of};
 use crate::stuck::stuck_of;
-use crate::turns::Desk;
-use crate::world::World;
 use std::alloc::{AllocError, Global};
 use xt_image::Image;
 use xt_trace::Options;
@@ -49,38 +43,6 @@ pub struct Answers {
     pub stuck: Option<Vec<u8>>,
     /// A race, if one was found.
     pub race: Option<NextRace>,
-}
-
-// The program counter of a core.
-fn pc_in(world: &World, core: u8) -> u32
-    ensures { (m : MemoryContents) → result ≡ (side_of core (spot_of m world.now)).state.control.pc }
-{
-    world.side(core).pc()
-}
-
-// How the search ended, which keeps at most so many worlds.
-fn ending_of(
-    image: &Image,
-    options: &Options,
-    search: &Search,
-    desk: &mut Desk,
-    most: u32,
-) -> Ending
-    requires search { IsSearch image.now options.now search.now }
-    requires ended { HasEnded most search.now }
-    ensures ending { IsEnding (code_of image.now) search.now.machine.timed (opening_of image.now options.now) most result }
-    ensures all { result ≡ All → IsComplete search.now }
-{
-    if is_whole(image, options, search, desk) {
-        return Ending::All;
-    }
-    match search.graph.barred {
-        Some(barred) => {
-            let pc = pc_in(&search.graph.kept[barred.from].world, barred.core);
-            Ending::Time(barred.core, pc)
-        }
-        None => Ending::States,
-    }
 }
 
 // An order after which the cores never both end; it is looked for only where the search came to its
@@ -126,9 +88,7 @@ pub fn answers_of(
     requires words { Each (λ a. a + 4 ≤ 2 ^ 32) words.now }
     ensures { IfOk result (λ a. AreAnswers image.now options.now timed words.now most a) }
 {
-    let search = search_orders(alloc, image, options, timed, most)?;
-    let mut desk = Desk::make(alloc, options)?;
-    let ended = ending_of(image, options, &search, &mut desk, most);
+    let (search, ended) = search_orders(alloc, image, options, timed, most)?;
     let found = outcomes_of(alloc, image, options, &search, words)?;
     let stuck = stuck_where(alloc, image, options, &search, ended)?;
     let race = race_of(alloc, image, options, &search)?;

@@ -5,9 +5,9 @@ ghost use Rattle.xt_search.specs.Worlds.{IsOrder};
 ghost use Rattle.xt_outcomes.specs.Places.{turns_of};
 ghost use Rattle.xt_outcomes.specs.Searched.{IsFoundBy, IsSearch};
 
+use crate::desk::Desk;
 use crate::opening::open;
 use crate::timed::Timed;
-use crate::turns::Desk;
 use crate::world::World;
 use std::alloc::{AllocError, Global};
 use xt_image::Image;
@@ -48,12 +48,13 @@ pub fn order_of(
     ensures found { IfOk result (λ v. IsFoundBy image.now options.now search.now v.items number) }
 {
     let runs = order_to(alloc, &search.machine, &search.graph, number)?;
-    let mut desk = Desk::make(alloc, options)?;
-    let mut world = open(alloc, image, options, &mut desk, search.machine.timed)?;
+    let mut desk = Desk::new(alloc)?;
+    let first = open(alloc, image, options, &mut desk, search.machine.timed)?;
+    let mut world = search.machine.forgetting(&mut desk, &first)?;
     let mut order = Vec::new(alloc);
     for at in 0..runs.len() {
         let core = runs[at];
-        let run = search.machine.run(&mut desk, &world, core)?;
+        let run = search.machine.made(&mut desk, &world, core)?;
         push_turns(&mut order, core, run.turns)?;
         world = run.world;
     }

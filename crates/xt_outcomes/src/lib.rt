@@ -2,6 +2,8 @@
 #![tactic(auto)]
 
 mod answers;
+mod dead;
+mod desk;
 mod found;
 mod laws;
 mod listing;
@@ -9,6 +11,7 @@ mod meeting;
 mod nexts;
 mod opening;
 mod outcome;
+mod paths;
 mod places;
 mod races;
 mod recording;
@@ -21,6 +24,8 @@ mod turns;
 mod world;
 
 pub use answers::{Answers, Ending, answers_of};
+pub use dead::Dead;
+pub use desk::Desk;
 pub use found::{Search, order_of};
 pub use laws::{runs_end_in_their_outcomes, spots_follow_orders, turns_beyond_play_no_part};
 pub use listing::{Found, outcomes_of};
@@ -34,5 +39,4 @@ pub use shelf::{Part, Shelf};
 pub use sides::Side;
 pub use stuck::stuck_of;
 pub use timed::{Run, Timed};
-pub use turns::Desk;
 pub use world::{Shared, World};

@@ -1,18 +1,19 @@
 //! The search that branches only where turns of both cores may meet.
-ghost use Rattle.std.specs.Prelude.{◌≡◌, ◌≤◌, ◌⊎◌, ◌↔◌, true, IfOk, IfNone, length};
+ghost use Rattle.std.specs.Prelude.{◌≡◌, ◌≤◌, ◌⊎◌, ◌↔◌, true, [], IfOk, IfSome, IfNone, length};
 ghost use Rattle.xt_map.specs.Placing.{IsPlaced};
 ghost use Rattle.xt_trace.specs.Validity.{IsValid};
 ghost use Rattle.xt_image.specs.ImageParts.{FitsImage};
 ghost use Rattle.xt_search.specs.Graphs.{IsWhole};
 ghost use Rattle.xt_outcomes.specs.Searched.{AreAllowed, HasEnded, IsComplete, IsSearch, MeetsAllOrders};
 
+use crate::answers::Ending;
+use crate::dead::Dead;
+use crate::desk::Desk;
 use crate::found::Search;
 use crate::opening::open;
-use crate::places::{Places, Seen};
+use crate::places::Places;
 use crate::timed::Timed;
-use crate::turns::Desk;
 use std::alloc::{AllocError, Global};
-use xt_changes::Changes;
 use xt_image::Image;
 use xt_search::{has_all, search};
 use xt_trace::Options;
@@ -23,14 +24,26 @@ const MOST_LOCAL: u16 = 4096;
 // How many worlds the first search keeps.
 const FIRST: u32 = 1024;
 
-/// Searches the worlds after all orders, where turns that meet nothing by these places are made at once,
-/// and keeps at most so many worlds. The only error is running out of memory.
+// How many turns of a core are watched before a search.
+const MOST_WATCHED: u32 = 16384;
+
+// How many searches are made at most.
+const MOST_SEARCHES: u32 = 128;
+
+// How many of them, the first ones, have dead registers.
+const MOST_WITH_DEAD: u32 = 96;
+
+/// Searches the worlds after all orders, where turns that meet nothing by these places are made at once, and
+/// by these masks nobody reads dead registers, and keeps at most so many worlds. The only error is running
+/// out of memory.
 pub fn search_by<'a>(
     alloc: Global,
     image: &'a Image,
     options: &Options,
+    desk: &mut Desk,
     timed: bool,
     places: Places,
+    dead: Dead,
     most: u32,
 ) -> Result<Search<'a>, AllocError>
     requires valid { IsValid options.now }
@@ -39,36 +52,26 @@ pub fn search_by<'a>(
     ensures search { IfOk result (λ s. IsSearch image.now options.now s) }
     ensures timed { IfOk result (λ s. s.machine.timed ≡ timed) }
     ensures places { IfOk result (λ s. s.machine.places ≡ places) }
+    ensures dead { IfOk result (λ s. s.machine.dead ≡ dead) }
     ensures ended { IfOk result (λ s. IfNone s.graph.barred (IsWhole s.graph ⊎ (most ≤ length s.graph.kept.items))) }
 {
-    let machine = Timed::make(alloc, image, options, timed, places, MOST_LOCAL)?;
-    let mut desk = Desk::make(alloc, options)?;
-    let opening = open(alloc, image, options, &mut desk, timed)?;
-    let graph = search(alloc, &machine, &mut desk, opening, most)?;
+    let machine = Timed::make(alloc, image, options, timed, places, dead, MOST_LOCAL)?;
+    let first = open(alloc, image, options, desk, timed)?;
+    let opening = machine.forgetting(desk, &first)?;
+    let graph = search(alloc, &machine, desk, opening, most)?;
     Ok(Search { machine, graph })
 }
 
-// Marks the accesses of the next turns of all kept worlds, and answers whether one of them is new.
-fn note_all(search: &Search, desk: &mut Desk, seen: &mut Seen) -> bool {
-    let mut new = false;
-    for kept in &search.graph.kept {
-        if search.machine.note(desk, &kept.world, seen) {
-            new = true;
-        }
-    }
-    new
-}
-
 /// Whether the places tell of the next turns of all kept worlds.
-pub fn are_allowed(search: &Search, desk: &mut Desk) -> bool
+pub fn are_allowed(search: &Search) -> bool
     ensures { (result ≡ true) ↔ AreAllowed search.now }
 {
     for number in 0..search.graph.kept.len() {
         let world = &search.graph.kept[number].world;
-        if !search.machine.is_told(desk, world.side(0), 0) {
+        if !search.machine.is_told(world.side(0), 0) {
             return false;
         }
-        if !search.machine.is_told(desk, world.side(1), 1) {
+        if !search.machine.is_told(world.side(1), 1) {
             return false;
         }
     }
@@ -77,7 +80,7 @@ pub fn are_allowed(search: &Search, desk: &mut Desk) -> bool
 
 /// Whether the search came to its end and its places are right: then the world after each order is kept
 /// if both next turns may meet something.
-pub fn is_whole(image: &Image, options: &Options, search: &Search, desk: &mut Desk) -> bool
+pub fn is_whole(image: &Image, options: &Options, search: &Search) -> bool
     requires search { IsSearch image.now options.now search.now }
     ensures complete { (result ≡ true) ↔ IsComplete search.now }
     ensures orders { result ≡ true → MeetsAllOrders image.now options.now search.now }
@@ -85,28 +88,70 @@ pub fn is_whole(image: &Image, options: &Options, search: &Search, desk: &mut De
     if !has_all(&search.machine, &search.graph) {
         return false;
     }
-    are_allowed(search, desk)
+    are_allowed(search)
 }
 
-// Whether nothing more can be searched: the search came to its end and its places are right, as many
-// worlds are kept as may be, or a turn uses time.
-fn may_end(image: &Image, options: &Options, search: &Search, desk: &mut Desk, most: u32) -> bool
+// How a search that keeps at most so many worlds ended. None: it has to be made again, with what was seen.
+// The only error is running out of memory.
+fn ended_by(
+    image: &Image,
+    options: &Options,
+    search: &Search,
+    desk: &mut Desk,
+    most: u32,
+) -> Result<Option<Ending>, AllocError>
     requires search { IsSearch image.now options.now search.now }
-    ensures { result ≡ true → HasEnded most search.now }
+    ensures { IfOk result (λ r. IfSome r (HasEnded image.now options.now most search.now)) }
 {
     match search.graph.barred {
-        Some(_) => true,
-        None => {
-            if search.graph.kept.len() >= most as usize {
-                return true;
+        Some(barred) => {
+            let side = search.graph.kept[barred.from].world.side(barred.core);
+            if !search.machine.is_timely(desk, side, barred.core)? {
+                return Ok(None);
             }
-            is_whole(image, options, search, desk)
+            Ok(Some(Ending::Time(barred.core, side.pc())))
+        }
+        None => {
+            if is_whole(image, options, search) {
+                return Ok(Some(Ending::All));
+            }
+            if search.graph.kept.len() < most as usize {
+                return Ok(None);
+            }
+            Ok(Some(Ending::States))
         }
     }
 }
 
-// How many worlds the next search keeps: where a smaller one has shown all places, as many as may be kept.
-fn next_limit(limit: u32, is_new: bool, most: u32) -> u32 {
+// How a search that keeps at most so many worlds ended, where both cores may come to each place, and no
+// register is dead.
+fn ended_at_last(image: &Image, options: &Options, search: &Search, most: u32) -> Ending
+    requires search { IsSearch image.now options.now search.now }
+    requires places { search.now.machine.places.list.items ≡ [] }
+    requires dead { search.now.machine.dead.masks.items ≡ [] }
+    requires ended { IfNone search.now.graph.barred (IsWhole search.now.graph ⊎ (most ≤ length search.now.graph.kept.items)) }
+    ensures { HasEnded image.now options.now most search.now result }
+{
+    match search.graph.barred {
+        Some(barred) => {
+            let side = search.graph.kept[barred.from].world.side(barred.core);
+            Ending::Time(barred.core, side.pc())
+        }
+        None => {
+            if has_all(&search.machine, &search.graph) {
+                return Ending::All;
+            }
+            Ending::States
+        }
+    }
+}
+
+// How many worlds the next search keeps: as many as before, if this one had to end before a turn; where it
+// has shown something new, some more, and else as many as may be.
+fn next_limit(limit: u32, search: &Search, is_new: bool, most: u32) -> u32 {
+    if search.graph.barred.is_some() {
+        return limit;
+    }
     if is_new {
         most.min(limit.saturating_mul(4))
     } else {
@@ -114,63 +159,78 @@ fn next_limit(limit: u32, is_new: bool, most: u32) -> u32 {
     }
 }
 
-// Marks the accesses of two orders: of core 0 first and then core 1, and the other way round.
+// Whether a search is the last one. It is not if as many worlds are kept as may be, and something new was
+// seen of places.
+fn is_last(ended: Ending, desk: &Desk) -> bool {
+    match ended {
+        Ending::All => true,
+        Ending::States => !desk.has_new_place(),
+        Ending::Time(_, _) => true,
+    }
+}
+
+// Notes turns of three orders: of core 0 first and then core 1, the other way round, and by turns. The only
+// error is running out of memory.
 fn watch_both(
     alloc: Global,
     image: &Image,
     options: &Options,
     timed: bool,
-    seen: &mut Seen,
+    desk: &mut Desk,
 ) -> Result<(), AllocError>
     requires valid { IsValid options.now }
     requires fits { FitsImage image.now }
     requires placed { IsPlaced image.now.segments }
 {
-    let machine = Timed::make(alloc, image, options, timed, Places::met(alloc), MOST_LOCAL)?;
-    let mut desk = Desk::make(alloc, options)?;
-    let opening = open(alloc, image, options, &mut desk, timed)?;
-    for first in 0..2u8 {
-        let mut changes = Changes::new(alloc);
-        machine.watch(&mut desk, &opening, &mut changes, first, seen)?;
-        machine.watch(&mut desk, &opening, &mut changes, 1 - first, seen)?;
-    }
-    Ok(())
+    let places = Places::met(alloc);
+    let dead = Dead::none(alloc);
+    let machine = Timed::make(alloc, image, options, timed, places, dead, MOST_LOCAL)?;
+    let opening = open(alloc, image, options, desk, timed)?;
+    machine.watch(desk, &opening, 0, 1, MOST_WATCHED)?;
+    machine.watch(desk, &opening, 1, 1, MOST_WATCHED)?;
+    machine.watch(desk, &opening, 0, MOST_WATCHED, 1)
 }
 
 /// Searches the worlds after all orders, and keeps at most so many: timed, with the turns that the
-/// options give, or with any number of turns and without time. It begins with the places that two orders
-/// show, and searches again as long as an access shows that the places were not right. The only error is running out of
-/// memory.
+/// options give, or with any number of turns and without time. It begins with the places and the dead
+/// registers that three orders show, and searches again as long as a turn shows that they were not right.
+/// Beside the search it answers how that ended. The only error is running out of memory.
 pub fn search_orders<'a>(
     alloc: Global,
     image: &'a Image,
     options: &Options,
     timed: bool,
     most: u32,
-) -> Result<Search<'a>, AllocError>
+) -> Result<(Search<'a>, Ending), AllocError>
     requires valid { IsValid options.now }
     requires fits { FitsImage image.now }
     requires placed { IsPlaced image.now.segments }
-    ensures search { IfOk result (λ s. IsSearch image.now options.now s) }
-    ensures timed { IfOk result (λ s. s.machine.timed ≡ timed) }
-    ensures ended { IfOk result (λ s. HasEnded most s) }
+    ensures search { IfOk result (λ r. IsSearch image.now options.now r.0) }
+    ensures timed { IfOk result (λ r. r.0.machine.timed ≡ timed) }
+    ensures ended { IfOk result (λ r. HasEnded image.now options.now most r.0 r.1) }
 {
-    let mut desk = Desk::make(alloc, options)?;
-    let mut seen = Seen::new(alloc)?;
-    watch_both(alloc, image, options, timed, &mut seen)?;
+    let mut desk = Desk::new(alloc)?;
+    watch_both(alloc, image, options, timed, &mut desk)?;
     let mut limit = most.min(FIRST);
-    for _ in 0..64u32 {
-        let places = seen.places(alloc)?;
-        let search = search_by(alloc, image, options, timed, places, limit)?;
-        if is_whole(image, options, &search, &mut desk) {
-            return Ok(search);
+    for number in 0..MOST_SEARCHES {
+        let places = desk.places(alloc)?;
+        let dead = if number < MOST_WITH_DEAD {
+            desk.dead(alloc)?
+        } else {
+            Dead::none(alloc)
+        };
+        desk.clear(alloc)?;
+        let search = search_by(alloc, image, options, &mut desk, timed, places, dead, limit)?;
+        if let Some(ended) = ended_by(image, options, &search, &mut desk, most)? {
+            if is_last(ended, &desk) {
+                return Ok((search, ended));
+            }
         }
-        let is_new = note_all(&search, &mut desk, &mut seen);
-        if !is_new && may_end(image, options, &search, &mut desk, most) {
-            return Ok(search);
-        }
-        limit = next_limit(limit, is_new, most);
+        limit = next_limit(limit, &search, desk.is_new(), most);
     }
-    let last = search_by(alloc, image, options, timed, Places::met(alloc), most)?;
-    Ok(last)
+    let places = Places::met(alloc);
+    let dead = Dead::none(alloc);
+    let last = search_by(alloc, image, options, &mut desk, timed, places, dead, most)?;
+    let ended = ended_at_last(image, options, &last, most);
+    Ok((last, ended))
 }

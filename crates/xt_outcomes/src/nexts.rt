@@ -20,11 +20,12 @@ ghost use Rattle.xt_outcomes.specs.Orders.{with_both, world_after};
 ghost use Rattle.xt_outcomes.specs.SpotRaces.{next_of};
 ghost use Rattle.xt_outcomes.specs.Spots.{spot_after, spot_in};
 
+use crate::dead::Dead;
+use crate::desk::Desk;
 use crate::opening::{open, open_with};
 use crate::places::Places;
 use crate::sides::Side;
 use crate::timed::Timed;
-use crate::turns::Desk;
 use crate::world::World;
 use std::alloc::{AllocError, Global};
 use xt_changes::Changes;
@@ -143,8 +144,9 @@ fn timed_turns(
     requires race { IsNextRace (code_of image.now) true (world_after (processor (code_of image.now)) true (opening_of image.now options.now) order.now) accesses.0 accesses.1 }
     ensures { IfOk result (λ r. AreNextTurns (code_of image.now) (world_after (processor (code_of image.now)) true (opening_of image.now options.now) order.now) r.0 r.1) }
 {
-    let machine = Timed::make(alloc, image, options, true, Places::met(alloc), 0)?;
-    let mut desk = Desk::make(alloc, options)?;
+    let places = Places::met(alloc);
+    let machine = Timed::make(alloc, image, options, true, places, Dead::none(alloc), 0)?;
+    let mut desk = Desk::new(alloc)?;
     let opening = open(alloc, image, options, &mut desk, true)?;
     let turns = (options.turns0, options.turns1);
     turns_from(
@@ -168,8 +170,9 @@ fn untimed_turns(
     requires race { IsNextRace (code_of image.now) false (world_after (processor (code_of image.now)) false (opening_of image.now options.now) order.now) accesses.0 accesses.1 }
     ensures { IfOk result (λ r. AreNextTurns (code_of image.now) (world_after (processor (code_of image.now)) false (opening_of image.now options.now) order.now) r.0 r.1) }
 {
-    let machine = Timed::make(alloc, image, options, true, Places::met(alloc), 0)?;
-    let mut desk = Desk::make(alloc, options)?;
+    let places = Places::met(alloc);
+    let machine = Timed::make(alloc, image, options, true, places, Dead::none(alloc), 0)?;
+    let mut desk = Desk::new(alloc)?;
     let more = one_more(order.len())?;
     let opening = open_with(alloc, image, options, &mut desk, more)?;
     let turns = turns_from(

@@ -8,8 +8,8 @@ ghost use Rattle.xt_outcomes.specs.KeptWorlds.{spot_of};
 ghost use Rattle.xt_outcomes.specs.Orders.{with_turns};
 ghost use Rattle.xt_outcomes.specs.Spots.{spot_in};
 
+use crate::desk::Desk;
 use crate::sides::Side;
-use crate::turns::Desk;
 use crate::world::World;
 use std::alloc::{AllocError, Global};
 use xt_changes::Changes;

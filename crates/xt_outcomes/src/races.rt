@@ -20,7 +20,6 @@ use crate::found::{Search, order_of};
 use crate::nexts::{NextTurn, next_turns};
 use crate::sides::Side;
 use crate::timed::Timed;
-use crate::turns::Desk;
 use crate::world::World;
 use std::alloc::{AllocError, Global};
 use xt_bus::Memory;
@@ -82,15 +81,14 @@ fn event_of(
 // The accesses of the next turns of two cores with this memory, where they conflict.
 fn race_between(
     machine: &Timed,
-    desk: &mut Desk,
     side0: &Side,
     side1: &Side,
     changes: &Changes,
 ) -> Option<(Access, Access)>
     ensures { MatchOption result ((a b : Access) → IsSpotRace (constant_byte machine.now.code) (record { side0 = side0.now; side1 = side1.now; memory = contents_of machine.now.opening.contents changes.now }) a b → ⊥) (λ r. IsSpotRace (constant_byte machine.now.code) (record { side0 = side0.now; side1 = side1.now; memory = contents_of machine.now.opening.contents changes.now }) r.0 r.1) }
 {
-    let access0 = side0.next_access(desk, &machine.code)?;
-    let access1 = side1.next_access(desk, &machine.code)?;
+    let access0 = side0.next_access(&machine.code)?;
+    let access1 = side1.next_access(&machine.code)?;
     let event0 = event_of(0, side0, &machine.opening, changes, &machine.code, access0);
     let event1 = event_of(1, side1, &machine.opening, changes, &machine.code, access1);
     if event0.conflicts(&event1) {
@@ -101,12 +99,11 @@ fn race_between(
 }
 
 // The accesses of the next turns of both cores, where they conflict.
-fn race_in(machine: &Timed, desk: &mut Desk, world: &World) -> Option<(Access, Access)>
+fn race_in(machine: &Timed, world: &World) -> Option<(Access, Access)>
     ensures { MatchOption result ((a b : Access) → IsSpotRace (constant_byte machine.now.code) (spot_of machine.now.opening.contents world.now) a b → ⊥) (λ r. IsSpotRace (constant_byte machine.now.code) (spot_of machine.now.opening.contents world.now) r.0 r.1) }
 {
     race_between(
         machine,
-        desk,
         world.side0.as_ref(),
         world.side1.as_ref(),
         world.changes.as_ref(),
@@ -131,9 +128,8 @@ pub fn race_of(
     ensures race { IfOk result (λ r. IfSome r (λ x. IsRaceAfter (code_of image.now) search.now.machine.timed (opening_of image.now options.now) x)) }
     ensures none { IfOk result (λ r. IsComplete search.now → IfNone r (HasNoRace (code_of image.now) search.now.machine.timed (opening_of image.now options.now))) }
 {
-    let mut desk = Desk::make(alloc, options)?;
     for number in 0..search.graph.nexts.len() {
-        let found = race_in(&search.machine, &mut desk, &search.graph.kept[number].world);
+        let found = race_in(&search.machine, &search.graph.kept[number].world);
         if let Some((access0, access1)) = found {
             let order = order_of(alloc, image, options, search, number)?;
             let timed = search.machine.timed;

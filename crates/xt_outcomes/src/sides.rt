@@ -166,6 +166,13 @@ impl Side {
         self.regs.pc
     }
 
+    /// WINDOWBASE.
+    pub fn base(&self) -> u8
+        ensures { result ≡ self.now.state.base }
+    {
+        self.regs.win.base()
+    }
+
     /// How the core has ended.
     pub fn stop(&self) -> Stop
         ensures { result ≡ stop_where self.now.stopped }

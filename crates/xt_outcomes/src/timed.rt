@@ -1,12 +1,17 @@
 //! The machine of an image: timed, with the turns that the options give, or with any number of turns
 //! and without time.
 ghost use Rattle.std.specs.Prelude.{◌≡◌, ◌==◌, ◌&&◌, ◌<◌};
+ghost use Rattle.xt_map.specs.declared.contents.MemoryContents.{MemoryContents};
 ghost use Rattle.xt_map.specs.Memory.{HasSizes, constant_byte};
 ghost use Rattle.xt_fetch.specs.Code.{AreBytes};
 
-use crate::places::{Places, Seen};
+use crate::dead::{Dead, are_fit, reads_at};
+use crate::desk::Desk;
+use crate::paths::Passage;
+use crate::places::Places;
+use crate::recording::serve;
 use crate::sides::Side;
-use crate::turns::Desk;
+use crate::turns::Ahead;
 use crate::world::World;
 use std::alloc::{AllocError, Global};
 use xt_bus::Memory;
@@ -16,19 +21,19 @@ use xt_image::Image;
 use xt_map::Constants;
 use xt_search::Machine;
 use xt_trace::Options;
-
-// How many turns of a core are watched before a search.
-const MOST_WATCHED: u32 = 16384;
+use xt_window::Windows;
 
 /// The constant bytes of an image, what memory holds as its runs open, whether time is part of the
-/// worlds, which turns meet nothing of the other core, and how many of those are made at once at most.
-/// If time is no part of the worlds, a search has to end before a turn that uses time.
+/// worlds, which turns meet nothing of the other core, which registers are dead, and how many of those turns
+/// are made at once at most. A search has to end before a turn that uses time, if time is no part of the
+/// worlds, and before one that does not fit the dead registers.
 #[derive(Drop)]
 pub struct Timed<'a> {
     pub code: Constants<'a>,
     pub opening: Memory,
     pub timed: bool,
     pub(crate) places: Places,
+    pub(crate) dead: Dead,
     pub(crate) most_local: u16,
     alloc: Global,
     ghost sizes: { HasSizes opening.contents },
@@ -60,6 +65,7 @@ impl<'a> Timed<'a> {
         options: &Options,
         timed: bool,
         places: Places,
+        dead: Dead,
         most_local: u16,
     ) -> Result<Timed<'a>, AllocError>
         requires valid { IsValid options.now }
@@ -69,6 +75,7 @@ impl<'a> Timed<'a> {
         ensures opening { IfOk result (λ t. t.opening.contents ≡ memory_of image.now options.now) }
         ensures timed { IfOk result (λ t. t.timed ≡ timed) }
         ensures places { IfOk result (λ t. t.places ≡ places) }
+        ensures dead { IfOk result (λ t. t.dead ≡ dead) }
     {
         let links = stack_links(options);
         Ok(Timed {
@@ -76,6 +83,7 @@ impl<'a> Timed<'a> {
             opening: Memory::make(alloc, image.segments.as_slice(), &links, 0)?,
             timed,
             places,
+            dead,
             most_local,
             alloc,
         })
@@ -83,24 +91,18 @@ impl<'a> Timed<'a> {
 }
 
 impl<'a> Timed<'a> {
-    ghost use Rattle.std.specs.Prelude.{false, IfOk, OnOk};
+    ghost use Rattle.std.specs.Prelude.{true, false, IfOk, IfSome, IfNone, OnOk};
     ghost use Rattle.xt_exec.specs.Chips.{processor};
     ghost use Rattle.xt_search.specs.Meetings.{after};
     ghost use Rattle.xt_changes.specs.Changed.{IsLean, contents_of};
-    ghost use Rattle.xt_outcomes.specs.KeptWorlds.{bars, spot_of};
+    ghost use Rattle.xt_outcomes.specs.Ahead.{IsAhead};
+    ghost use Rattle.xt_outcomes.specs.Dead.{fits, spot_forgotten};
+    ghost use Rattle.xt_outcomes.specs.KeptWorlds.{bars, moved_spot, spot_of};
+    ghost use Rattle.xt_outcomes.specs.Nexts.{TurnsFit, next_bars, side_next, spot_next};
     ghost use Rattle.xt_outcomes.specs.Places.{is_local, is_told, spot_run, turns_of};
-    ghost use Rattle.xt_outcomes.specs.Spots.{TurnsAreFree, memory_given, side_given, spot_past};
+    ghost use Rattle.xt_outcomes.specs.Spots.{memory_given, side_bars, spot_past};
 
-    // One turn of a core more. The only error is running out of memory.
-    fn go_on(&self, desk: &mut Desk, side: &Side, changes: &mut Changes) -> Result<Side, AllocError>
-        ensures side { IfOk result (λ s. s ≡ side_given (processor (constant_byte self.now.code)) self.now.timed side.now.left side.now (contents_of self.now.opening.contents changes.old)) }
-        ensures memory { OnOk result (contents_of self.now.opening.contents changes.new ≡ memory_given (processor (constant_byte self.now.code)) side.now.left side.now.state (contents_of self.now.opening.contents changes.old)) }
-        ensures lean { OnOk result (IsLean self.now.opening.contents changes.old → IsLean self.now.opening.contents changes.new) }
-    {
-        side.turned(desk, &self.code, &self.opening, changes, self.timed)
-    }
-
-    /// One turn of a core. The only error is running out of memory.
+    /// One turn of a core, of which nothing is left out but time. The only error is running out of memory.
     ///
     /// Condition: the core is 0 or 1.
     pub(crate) fn make_turn(
@@ -113,87 +115,279 @@ impl<'a> Timed<'a> {
         ensures { IfOk result (λ w. spot_of self.now.opening.contents w ≡ spot_past (processor (constant_byte self.now.code)) self.now.timed core (spot_of self.now.opening.contents world.now)) }
     {
         let mut changes = world.changes.copy(self.alloc)?;
-        let side = self.go_on(desk, world.side(core), &mut changes)?;
+        let side = world.side(core);
+        if side.left() == 0 {
+            let next = desk
+                .shared
+                .moved(self.alloc, world, core, side.copy(), changes)?;
+            return Ok(next);
+        }
+        let (side, _) = side.recorded(&self.code, &self.opening, &mut changes, self.timed)?;
         let next = desk.shared.moved(self.alloc, world, core, side, changes)?;
         Ok(next)
     }
 
-    // Whether the next turn of a core uses no time and meets nothing of the other core.
-    fn is_local(&self, desk: &mut Desk, side: &Side, core: u8) -> bool
-        ensures { result ≡ is_local (constant_byte self.now.code) self.now.timed self.now.places.list.items core side.now }
+    /// The same world without the registers that are dead. The only error is running out of memory.
+    pub(crate) fn forgetting(&self, desk: &mut Desk, world: &World) -> Result<World, AllocError>
+        ensures spot { IfOk result (λ w. spot_of self.now.opening.contents w ≡ spot_forgotten self.now.dead.masks.items (spot_of self.now.opening.contents world.now)) }
+        ensures lean { IfOk result (λ w. w.changes.value ≡ world.now.changes.value) }
+    {
+        let side0 = world.side(0).forgetting(&self.dead);
+        let side1 = world.side(1).forgetting(&self.dead);
+        let changes = world.changes.copy(self.alloc)?;
+        let next = desk.shared.world(self.alloc, side0, side1, changes)?;
+        Ok(next)
+    }
+
+    // Whether a core's next turn, which is this one, fits what is taken for granted of registers. It is
+    // noted. The only error is running out of memory.
+    fn is_fit(
+        &self,
+        desk: &mut Desk,
+        side: &Side,
+        core: u8,
+        ahead: &Ahead,
+    ) -> Result<bool, AllocError>
+        ensures { (m : MemoryContents) → IsAhead (constant_byte self.now.code) side.now.state m ahead.now → IfOk result (λ b. b ≡ fits (constant_byte self.now.code) self.now.dead.masks.items side.now.state) }
+    {
+        let passage = Passage {
+            from: side.pc(),
+            to: ahead.regs.pc,
+            reads: reads_at(&self.code, side.pc()),
+            write: ahead.record.write,
+            stays: ahead.regs.win.base() == side.base(),
+        };
+        desk.note(core, ahead.record.access, &passage)?;
+        Ok(are_fit(
+            self.dead.at(passage.from),
+            passage.reads,
+            passage.stays,
+            passage.write,
+            self.dead.at(passage.to),
+        ))
+    }
+
+    // The next turn of a core, which has one left; None: the search has to end before it. The only error is
+    // running out of memory.
+    fn ahead(
+        &self,
+        desk: &mut Desk,
+        side: &Side,
+        core: u8,
+        changes: &Changes,
+    ) -> Result<Option<Ahead>, AllocError>
+        requires left { 0 < side.now.left }
+        ensures free { IfOk result (λ r. IfSome r (λ a. next_bars (constant_byte self.now.code) self.now.timed self.now.dead.masks.items side.now ≡ false)) }
+        ensures ahead { IfOk result (λ r. IfSome r (λ a. IsAhead (constant_byte self.now.code) side.now.state (contents_of self.now.opening.contents changes.now) a)) }
+        ensures barred { IfOk result (λ r. IfNone r (next_bars (constant_byte self.now.code) self.now.timed self.now.dead.masks.items side.now ≡ true)) }
+    {
+        if side.bars(&self.code, self.timed) {
+            return Ok(None);
+        }
+        let ahead = side.ahead(&self.code, &self.opening, changes);
+        if !self.is_fit(desk, side, core, &ahead)? {
+            return Ok(None);
+        }
+        Ok(Some(ahead))
+    }
+
+    // The next turn of a core, if it meets nothing of the other core. The only error is running out of
+    // memory.
+    fn local(
+        &self,
+        desk: &mut Desk,
+        side: &Side,
+        core: u8,
+        changes: &Changes,
+    ) -> Result<Option<Ahead>, AllocError>
+        ensures local { IfOk result (λ r. IfSome r (λ a. is_local (constant_byte self.now.code) self.now.timed self.now.dead.masks.items self.now.places.list.items core side.now ≡ true)) }
+        ensures left { IfOk result (λ r. IfSome r (λ a. 0 < side.now.left)) }
+        ensures ahead { IfOk result (λ r. IfSome r (λ a. IsAhead (constant_byte self.now.code) side.now.state (contents_of self.now.opening.contents changes.now) a)) }
+        ensures none { IfOk result (λ r. IfNone r (is_local (constant_byte self.now.code) self.now.timed self.now.dead.masks.items self.now.places.list.items core side.now ≡ false)) }
     {
         if side.left() == 0 {
-            return false;
+            return Ok(None);
         }
-        if side.bars(&self.code, self.timed) {
-            return false;
+        let Some(ahead) = self.ahead(desk, side, core, changes)? else {
+            return Ok(None);
+        };
+        if !self.places.is_own(core, ahead.record.access) {
+            return Ok(None);
         }
-        let access = side.next_access(desk, &self.code);
-        self.places.is_own(core, access)
+        Ok(Some(ahead))
+    }
+
+    // The core after its next turn, whose access is served. The only error is running out of memory.
+    fn go_on(&self, side: &Side, ahead: &Ahead, changes: &mut Changes) -> Result<Side, AllocError>
+        requires left { 0 < side.now.left }
+        requires ahead { IsAhead (constant_byte self.now.code) side.now.state (contents_of self.now.opening.contents changes.old) ahead.now }
+        ensures side { IfOk result (λ s. s ≡ side_next (processor (constant_byte self.now.code)) self.now.timed self.now.dead.masks.items side.now.left side.now (contents_of self.now.opening.contents changes.old)) }
+        ensures memory { OnOk result (contents_of self.now.opening.contents changes.new ≡ memory_given (processor (constant_byte self.now.code)) side.now.left side.now.state (contents_of self.now.opening.contents changes.old)) }
+        ensures lean { OnOk result (IsLean self.now.opening.contents changes.old → IsLean self.now.opening.contents changes.new) }
+    {
+        serve(ahead.record.access, &self.opening, changes)?;
+        let past = side.past(ahead, self.timed);
+        Ok(past.forgetting(&self.dead))
     }
 
     /// Whether the places tell of the next turn of a core.
-    pub fn is_told(&self, desk: &mut Desk, side: &Side, core: u8) -> bool
+    pub fn is_told(&self, side: &Side, core: u8) -> bool
         ensures { result ≡ is_told (constant_byte self.now.code) self.now.places.list.items core side.now }
     {
-        let access = side.next_access(desk, &self.code);
+        let access = side.next_access(&self.code);
         self.places.may_access(core, access)
     }
 
-    /// Marks the accesses of both next turns, and answers whether one of them is new.
-    pub fn note(&self, desk: &mut Desk, world: &World, seen: &mut Seen) -> bool {
-        let access0 = world.side(0).next_access(desk, &self.code);
-        let access1 = world.side(1).next_access(desk, &self.code);
-        let new0 = seen.note(0, access0);
-        let new1 = seen.note(1, access1);
-        new0 || new1
+    /// Whether a search has to end before the next turn of a core since it uses time, and not since what is
+    /// taken for granted of registers does not fit it. The only error is running out of memory.
+    pub fn is_timely(&self, desk: &mut Desk, side: &Side, core: u8) -> Result<bool, AllocError>
+        ensures time { IfOk result (λ b. b ≡ true → side_bars (constant_byte self.now.code) self.now.timed side.now ≡ true) }
+        ensures fits { IfOk result (λ b. b ≡ true → fits (constant_byte self.now.code) self.now.dead.masks.items side.now.state ≡ true) }
+    {
+        if !side.bars(&self.code, self.timed) {
+            return Ok(false);
+        }
+        let none = Changes::new(self.alloc);
+        let ahead = side.ahead(&self.code, &self.opening, &none);
+        self.is_fit(desk, side, core, &ahead)
     }
 
-    /// Makes the first turns of a core after these changes of memory, at most so many, and marks their
-    /// accesses. The only error is running out of memory.
-    pub fn watch(
+    // A turn of a core more, unless the search has to end before it. The only error is running out of memory.
+    fn watch_turn(
+        &self,
+        desk: &mut Desk,
+        side: &Side,
+        core: u8,
+        changes: &mut Changes,
+    ) -> Result<Side, AllocError> {
+        if side.left() == 0 {
+            return Ok(side.copy());
+        }
+        match self.ahead(desk, side, core, changes)? {
+            Some(ahead) => self.go_on(side, &ahead, changes),
+            None => Ok(side.copy()),
+        }
+    }
+
+    // So many turns of a core more. The only error is running out of memory.
+    fn watch_turns(
+        &self,
+        desk: &mut Desk,
+        side: Side,
+        core: u8,
+        changes: &mut Changes,
+        turns: u32,
+    ) -> Result<Side, AllocError> {
+        let mut side = side;
+        for _ in 0..turns {
+            side = self.watch_turn(desk, &side, core, changes)?;
+        }
+        Ok(side)
+    }
+
+    /// Makes turns of both cores and notes them: so often so many of this core, and as many of the other one.
+    /// The only error is running out of memory.
+    ///
+    /// Condition: the core is 0 or 1.
+    pub(crate) fn watch(
         &self,
         desk: &mut Desk,
         opening: &World,
-        changes: &mut Changes,
-        core: u8,
-        seen: &mut Seen,
-    ) -> Result<(), AllocError> {
-        let mut side = opening.side(core).copy();
-        for _ in 0..MOST_WATCHED {
-            if side.left() == 0 {
-                return Ok(());
-            }
-            seen.note(core, side.next_access(desk, &self.code));
-            side = self.go_on(desk, &side, changes)?;
+        first: u8,
+        often: u32,
+        turns: u32,
+    ) -> Result<(), AllocError>
+        requires { first < 2 }
+    {
+        let second = 1 - first;
+        let mut changes = Changes::new(self.alloc);
+        let mut side = opening.side(first).copy();
+        let mut other = opening.side(second).copy();
+        for _ in 0..often {
+            side = self.watch_turns(desk, side, first, &mut changes, turns)?;
+            other = self.watch_turns(desk, other, second, &mut changes, turns)?;
         }
         Ok(())
     }
 
-    /// A turn of a core, and then its turns that meet nothing. The only error is running out of memory.
-    ///
-    /// Conditions: the core is 0 or 1, and its turn uses no time.
-    pub fn run(&self, desk: &mut Desk, world: &World, core: u8) -> Result<Run, AllocError>
-        requires core { core < 2 }
-        requires free { bars (constant_byte self.now.code) self.now.timed self.now.opening.contents core world.now ≡ false }
-        ensures run { IfOk result (λ r. spot_of self.now.opening.contents r.world ≡ spot_run (constant_byte self.now.code) self.now.timed self.now.places.list.items self.now.most_local core (spot_of self.now.opening.contents world.now)) }
-        ensures turns { IfOk result (λ r. spot_of self.now.opening.contents r.world ≡ after (spot_past (processor (constant_byte self.now.code)) self.now.timed) (turns_of core r.turns) (spot_of self.now.opening.contents world.now)) }
-        ensures free { IfOk result (λ r. TurnsAreFree (constant_byte self.now.code) self.now.timed (turns_of core r.turns) (spot_of self.now.opening.contents world.now)) }
-        ensures lean { IfOk result (λ r. IsLean self.now.opening.contents world.now.changes.value → IsLean self.now.opening.contents r.world.changes.value) }
+    // The world in which a core has come so far by so many turns. The only error is running out of memory.
+    fn run_to(
+        &self,
+        desk: &mut Desk,
+        world: &World,
+        core: u8,
+        side: Side,
+        changes: Changes,
+        turns: u32,
+    ) -> Result<Run, AllocError>
+        ensures turns { IfOk result (λ r. r.turns ≡ turns) }
+        ensures changes { IfOk result (λ r. r.world.changes.value ≡ changes) }
+        ensures spot { IfOk result (λ r. (m : MemoryContents) → spot_of m r.world ≡ moved_spot core side (contents_of m changes) (spot_of m world.now)) }
     {
-        let mut changes = world.changes.copy(self.alloc)?;
-        let mut side = self.go_on(desk, world.side(core), &mut changes)?;
-        let mut turns = 1;
-        for made in 0..self.most_local {
-            if !self.is_local(desk, &side, core) {
-                let world = desk.shared.moved(self.alloc, world, core, side, changes)?;
-                return Ok(Run { world, turns });
-            }
-            side = self.go_on(desk, &side, &mut changes)?;
-            turns += 1;
-        }
         let world = desk.shared.moved(self.alloc, world, core, side, changes)?;
         Ok(Run { world, turns })
+    }
+
+    /// A turn of a core, and then its turns that meet nothing; None: the search has to end before the first
+    /// one. The only error is running out of memory.
+    ///
+    /// Condition: the core is 0 or 1.
+    pub fn run(&self, desk: &mut Desk, world: &World, core: u8) -> Result<Option<Run>, AllocError>
+        requires core { core < 2 }
+        ensures run { IfOk result (λ o. IfSome o (λ r. spot_of self.now.opening.contents r.world ≡ spot_run (constant_byte self.now.code) self.now.timed self.now.dead.masks.items self.now.places.list.items self.now.most_local core (spot_of self.now.opening.contents world.now))) }
+        ensures turns { IfOk result (λ o. IfSome o (λ r. spot_of self.now.opening.contents r.world ≡ after (spot_next (processor (constant_byte self.now.code)) self.now.timed self.now.dead.masks.items) (turns_of core r.turns) (spot_of self.now.opening.contents world.now))) }
+        ensures free { IfOk result (λ o. IfSome o (λ r. TurnsFit (constant_byte self.now.code) self.now.timed self.now.dead.masks.items (turns_of core r.turns) (spot_of self.now.opening.contents world.now))) }
+        ensures lean { IfOk result (λ o. IfSome o (λ r. IsLean self.now.opening.contents world.now.changes.value → IsLean self.now.opening.contents r.world.changes.value)) }
+        ensures begins { IfOk result (λ o. IfSome o (λ r. bars (constant_byte self.now.code) self.now.timed self.now.dead.masks.items self.now.opening.contents core world.now ≡ false)) }
+        ensures barred { IfOk result (λ o. IfNone o (bars (constant_byte self.now.code) self.now.timed self.now.dead.masks.items self.now.opening.contents core world.now ≡ true)) }
+    {
+        let mut changes = world.changes.copy(self.alloc)?;
+        let first = world.side(core);
+        if first.left() == 0 {
+            let run = self.run_to(desk, world, core, first.copy(), changes, 1)?;
+            return Ok(Some(run));
+        }
+        let Some(ahead) = self.ahead(desk, first, core, &changes)? else {
+            return Ok(None);
+        };
+        let mut side = self.go_on(first, &ahead, &mut changes)?;
+        let mut turns = 1;
+        for made in 0..self.most_local {
+            let Some(ahead) = self.local(desk, &side, core, &changes)? else {
+                let run = self.run_to(desk, world, core, side, changes, turns)?;
+                return Ok(Some(run));
+            };
+            side = self.go_on(&side, &ahead, &mut changes)?;
+            turns += 1;
+        }
+        let run = self.run_to(desk, world, core, side, changes, turns)?;
+        Ok(Some(run))
+    }
+}
+
+impl<'a> Timed<'a> {
+    ghost use Rattle.std.specs.Prelude.{false, IfOk};
+    ghost use Rattle.xt_exec.specs.Chips.{processor};
+    ghost use Rattle.xt_search.specs.Meetings.{after};
+    ghost use Rattle.xt_outcomes.specs.KeptWorlds.{bars, spot_of};
+    ghost use Rattle.xt_outcomes.specs.Nexts.{TurnsFit, spot_next};
+    ghost use Rattle.xt_outcomes.specs.Places.{spot_run, turns_of};
+
+    /// A turn of a core, before which the search need not end, and then its turns that meet nothing. The only
+    /// error is running out of memory.
+    ///
+    /// Condition: the core is 0 or 1.
+    pub(crate) fn made(&self, desk: &mut Desk, world: &World, core: u8) -> Result<Run, AllocError>
+        requires core { core < 2 }
+        requires free { bars (constant_byte self.now.code) self.now.timed self.now.dead.masks.items self.now.opening.contents core world.now ≡ false }
+        ensures run { IfOk result (λ r. spot_of self.now.opening.contents r.world ≡ spot_run (constant_byte self.now.code) self.now.timed self.now.dead.masks.items self.now.places.list.items self.now.most_local core (spot_of self.now.opening.contents world.now)) }
+        ensures turns { IfOk result (λ r. spot_of self.now.opening.contents r.world ≡ after (spot_next (processor (constant_byte self.now.code)) self.now.timed self.now.dead.masks.items) (turns_of core r.turns) (spot_of self.now.opening.contents world.now)) }
+        ensures free { IfOk result (λ r. TurnsFit (constant_byte self.now.code) self.now.timed self.now.dead.masks.items (turns_of core r.turns) (spot_of self.now.opening.contents world.now)) }
+    {
+        let Some(run) = self.run(desk, world, core)? else {
+            unreachable!();
+        };
+        Ok(run)
     }
 }
 
@@ -213,9 +407,9 @@ impl<'a> Machine for Timed<'a> {
 
     type Desk = Desk;
 
-    ghost Leads = { λ t c v w. kept.Leads (constant_byte t.code) t.timed t.places.list.items t.most_local t.opening.contents c v w };
+    ghost Leads = { λ t c v w. kept.Leads (constant_byte t.code) t.timed t.dead.masks.items t.places.list.items t.most_local t.opening.contents c v w };
 
-    ghost bars = { λ t c w. kept.bars (constant_byte t.code) t.timed t.opening.contents c w };
+    ghost bars = { λ t c w. kept.bars (constant_byte t.code) t.timed t.dead.masks.items t.opening.contents c w };
 
     ghost Same = { λ _ v w. IsSameWorld v w };
 
@@ -223,13 +417,16 @@ impl<'a> Machine for Timed<'a> {
 
     ghost ends = { λ t w. (w.side0.value.left == 0) && (w.side1.value.left == 0) };
 
-    fn is_barred(&self, world: &World, core: u8) -> bool {
-        world.side(core).bars(&self.code, self.timed)
-    }
-
-    fn turned(&self, desk: &mut Desk, world: &World, core: u8) -> Result<World, AllocError> {
-        let run = self.run(desk, world, core)?;
-        Ok(run.world)
+    fn turned(
+        &self,
+        desk: &mut Desk,
+        world: &World,
+        core: u8,
+    ) -> Result<Option<World>, AllocError> {
+        match self.run(desk, world, core)? {
+            Some(run) => Ok(Some(run.world)),
+            None => Ok(None),
+        }
     }
 
     fn is_same(&self, a: &World, b: &World) -> bool {

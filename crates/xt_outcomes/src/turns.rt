@@ -1,118 +1,40 @@
 //! One turn of a core, from a world that is kept.
-ghost use Rattle.std.specs.Prelude.{◌≡◌, ◌-◌, ◌<◌, ◌≤◌, ◌||◌, if◌then◌else◌, None, true, IfOk, IfSome, OnOk};
+ghost use Rattle.std.specs.Prelude.{◌≡◌, ◌-◌, ◌<◌, ◌≤◌, ◌||◌, if◌then◌else◌, true, IfOk, IfSome, OnOk};
 ghost use Rattle.xt_map.specs.Memory.{HasSizes, constant_byte};
 ghost use Rattle.xt_map.specs.Regions.{is_mapped};
 ghost use Rattle.xt_fetch.specs.Code.{AreBytes};
-ghost use Rattle.xt_trace.specs.Worlds.{answer, memory_left};
-ghost use Rattle.xt_changes.specs.Changed.{IsLean, contents_of};
-ghost use Rattle.xt_rows.specs.RowLaws.{IsWord};
-ghost use Rattle.xt_exec.specs.Chips.{processor};
-ghost use Rattle.xt_exec.specs.Turn.{demand};
-ghost use Rattle.xt_core.specs.Cores.{core_after_turn};
-ghost use Rattle.xt_outcomes.specs.SpotRaces.{next_of};
-ghost use Rattle.xt_outcomes.specs.Spots.{memory_given, more_kept, side_bars, side_given, state_kept};
-ghost use Rattle.xt_exec.specs.TurnLaws.{IsShaped};
+ghost use Rattle.xt_trace.specs.Calls.{is_stop};
+ghost use Rattle.xt_trace.specs.Worlds.{answer, left_past};
+ghost use Rattle.xt_changes.specs.Changed.{contents_of};
 ghost use Rattle.xt_exec.specs.States.{file_state};
+ghost use Rattle.xt_rows.specs.RowLaws.{IsWord};
+ghost use Rattle.xt_exec.specs.Turn.{demand, turn};
+ghost use Rattle.xt_exec.specs.TurnLaws.{IsShaped};
+ghost use Rattle.xt_outcomes.specs.Ahead.{IsAhead};
+ghost use Rattle.xt_outcomes.specs.Dead.{forgotten, side_forgotten};
+ghost use Rattle.xt_outcomes.specs.SpotRaces.{next_of};
+ghost use Rattle.xt_outcomes.specs.Spots.{more_kept, side_bars, state_kept};
 
+use crate::dead::{Dead, forget};
 use crate::sides::Side;
-use crate::world::Shared;
-use std::alloc::{AllocError, Global};
 use xt_bus::Memory;
 use xt_changes::Changes;
-use xt_core::{Begin, Core};
+use xt_core::{StartedTurn, end_turn, start_turn};
 use xt_exec::Regs;
 use xt_map::{Access, Constants};
 use xt_timeless::{clear_time, uses_time};
-use xt_trace::Options;
+use xt_trace::{StepKind, StepRecord};
 use xt_window::WindowFile;
 
-/// A core that makes the turns of all worlds, and what the worlds share.
-#[derive(Drop)]
-pub struct Desk {
-    core: Core<WindowFile>,
-    pub(crate) shared: Shared,
-    ghost free: { core.waiting ≡ None },
-    ghost room: { 2 ≤ core.turns },
-}
-
-impl Desk {
-    ghost use Rattle.xt_trace.specs.Validity.{IsValid};
-
-    /// A core with room for two turns. The only error is running out of memory.
-    ///
-    /// Condition: the options are valid.
-    pub fn make(alloc: Global, options: &Options) -> Result<Desk, AllocError>
-        requires { IsValid options.now }
-    {
-        let two = Options {
-            turns0: 2,
-            turns1: 2,
-            entry1: options.entry1,
-            vecbase: options.vecbase,
-            stack0: options.stack0,
-            stack1: options.stack1,
-        };
-        Ok(Desk {
-            core: Core::make(alloc, 0, options.entry1, &two, WindowFile::new())?,
-            shared: Shared::new(alloc)?,
-        })
-    }
-}
-
-// One turn of a core that has one left. The only error is running out of memory.
-fn make_turn(
-    core: &mut Core<WindowFile>,
-    code: &Constants,
-    opening: &Memory,
-    changes: &mut Changes,
-) -> Result<(), AllocError>
-    requires waiting { core.old.waiting ≡ None }
-    requires left { 0 < core.old.left }
-    requires sizes { HasSizes opening.now.contents }
-    ensures core { OnOk result (core.new ≡ core_after_turn (constant_byte code.now) (answer (demand (constant_byte code.now) core.old.state) (contents_of opening.now.contents changes.old)) core.old) }
-    ensures memory { OnOk result (contents_of opening.now.contents changes.new ≡ memory_left (demand (constant_byte code.now) core.old.state) (contents_of opening.now.contents changes.old)) }
-    ensures lean { OnOk result (IsLean opening.now.contents changes.old → IsLean opening.now.contents changes.new) }
-    ensures word { OnOk result (IsWord (answer (demand (constant_byte code.now) core.old.state) (contents_of opening.now.contents changes.old))) }
-    ensures free { core.new.waiting ≡ None }
-    ensures turns { core.new.turns ≡ core.old.turns }
-{
-    match core.turn_begin(code) {
-        Begin::Bus(access) => match changes.serve(opening, access) {
-            Ok(reply) => {
-                core.turn_end(reply);
-                Ok(())
-            }
-            Err(e) => {
-                core.turn_end(0);
-                Err(e)
-            }
-        },
-        Begin::Local => Ok(()),
-        Begin::Ended => Ok(()),
-    }
-}
-
-// The access of the next turn of a core that has one left. The turn is made, with another reply.
-fn asked(core: &mut Core<WindowFile>, code: &Constants) -> Option<Access>
-    requires waiting { core.old.waiting ≡ None }
-    requires left { 0 < core.old.left }
-    ensures access { result ≡ demand (constant_byte code.now) core.old.state }
-    ensures mapped { IfSome result (λ a. is_mapped a ≡ true) }
-    ensures free { core.new.waiting ≡ None }
-    ensures turns { core.new.turns ≡ core.old.turns }
-{
-    match core.turn_begin(code) {
-        Begin::Bus(access) => {
-            core.turn_end(0);
-            Some(access)
-        }
-        Begin::Local => None,
-        Begin::Ended => None,
-    }
+/// A core's next turn: the registers after it, and its record. Its access is not served yet.
+#[derive(Clone, Copy)]
+pub struct Ahead {
+    pub regs: Regs<WindowFile>,
+    pub record: StepRecord,
 }
 
 // The turns that are left after one, of so many. Where it is not timed, one stands for all.
-pub(crate) fn left_after(left: u32, stops: bool, timed: bool) -> u32
+fn left_after(left: u32, stops: bool, timed: bool) -> u32
     requires { 0 < left }
     ensures { result ≡ (if stops then 0 else more_kept timed (left - 1)) }
 {
@@ -140,23 +62,66 @@ pub(crate) fn regs_kept(regs: Regs<WindowFile>, timed: bool) -> Regs<WindowFile>
 }
 
 // Whether one of them is true.
-pub(crate) fn is_either(a: bool, b: bool) -> bool
+fn is_either(a: bool, b: bool) -> bool
     ensures { result ≡ (a || b) }
 {
     a || b
 }
 
+// Whether a turn of this kind stops its core.
+fn stops(kind: StepKind) -> bool
+    ensures { result ≡ is_stop kind }
+{
+    matches!(kind, StepKind::Stop)
+}
+
+// The registers that are kept, without the ones that are dead.
+fn regs_forgetting(regs: Regs<WindowFile>, dead: &Dead) -> Regs<WindowFile>
+    requires { IsShaped (file_state regs) }
+    ensures state { file_state result ≡ forgotten dead.now.masks.items (file_state regs) }
+    ensures shaped { IsShaped (file_state result) }
+{
+    let mask = dead.at(regs.pc);
+    let mut kept = regs;
+    kept.win = forget(mask, regs.win);
+    kept
+}
+
+// One turn with the reply that its access gets, and its record.
+fn begun_turn(
+    regs: &mut Regs<WindowFile>,
+    code: &Constants,
+    opening: &Memory,
+    changes: &Changes,
+) -> StepRecord
+    requires sizes { HasSizes opening.now.contents }
+    ensures turn { let code = constant_byte code.now in let s = file_state regs.old in
+        (result, file_state regs.new) ≡ turn code s (answer (demand code s) (contents_of opening.now.contents changes.now)) }
+    ensures word { IsWord (answer (demand (constant_byte code.now) (file_state regs.old)) (contents_of opening.now.contents changes.now)) }
+{
+    match start_turn(regs, code) {
+        StartedTurn::Local(record) => record,
+        StartedTurn::Asks(pending) => {
+            let reply = changes.reply(opening, pending.access);
+            end_turn(regs, pending, reply)
+        }
+    }
+}
+
 impl Side {
     /// The access of the core's next turn; None: it makes none, or the core has ended.
-    pub fn next_access(&self, desk: &mut Desk, code: &Constants) -> Option<Access>
+    pub fn next_access(&self, code: &Constants) -> Option<Access>
         ensures access { result ≡ next_of (constant_byte code.now) self.now }
         ensures mapped { IfSome result (λ a. is_mapped a ≡ true) }
     {
         if self.left == 0 {
             return None;
         }
-        desk.core.restart(self.regs, 2);
-        asked(&mut desk.core, code)
+        let mut regs = self.regs;
+        match start_turn(&mut regs, code) {
+            StartedTurn::Local(_) => None,
+            StartedTurn::Asks(pending) => Some(pending.access),
+        }
     }
 
     /// Whether the core's next turn uses time, where it is not timed.
@@ -169,32 +134,45 @@ impl Side {
         self.left != 0 && uses_time(&self.regs, code)
     }
 
-    /// The core after its next turn, or as it is where it has ended; without time, where it is not
-    /// timed. The only error is running out of memory.
-    pub fn turned(
-        &self,
-        desk: &mut Desk,
-        code: &Constants,
-        opening: &Memory,
-        changes: &mut Changes,
-        timed: bool,
-    ) -> Result<Side, AllocError>
+    /// The core's next turn, with the reply that its access gets.
+    pub(crate) fn ahead(&self, code: &Constants, opening: &Memory, changes: &Changes) -> Ahead
         requires sizes { HasSizes opening.now.contents }
         requires bytes { AreBytes (constant_byte code.now) }
-        ensures side { IfOk result (λ s. s ≡ side_given (processor (constant_byte code.now)) timed self.now.left self.now (contents_of opening.now.contents changes.old)) }
-        ensures memory { OnOk result (contents_of opening.now.contents changes.new ≡ memory_given (processor (constant_byte code.now)) self.now.left self.now.state (contents_of opening.now.contents changes.old)) }
-        ensures lean { OnOk result (IsLean opening.now.contents changes.old → IsLean opening.now.contents changes.new) }
+        ensures { IsAhead (constant_byte code.now) self.now.state (contents_of opening.now.contents changes.now) result }
     {
-        if self.left == 0 {
-            return Ok(self.copy());
-        }
-        desk.core.restart(self.regs, 2);
-        make_turn(&mut desk.core, code, opening, changes)?;
-        let stops = desk.core.left() == 0;
-        Ok(Side {
-            regs: regs_kept(*desk.core.regs(), timed),
+        let mut regs = self.regs;
+        let record = begun_turn(&mut regs, code, opening, changes);
+        Ahead { regs, record }
+    }
+
+    /// The core after its next turn; without time, where it is not timed.
+    ///
+    /// Condition: the core has a turn left.
+    pub(crate) fn past(&self, ahead: &Ahead, timed: bool) -> Side
+        requires left { 0 < self.now.left }
+        requires shaped { IsShaped (file_state ahead.now.regs) }
+        ensures { result ≡ record {
+          state = state_kept timed (file_state ahead.now.regs);
+          left = left_past ahead.now.record (more_kept timed (self.now.left - 1));
+          stopped = self.now.stopped || is_stop ahead.now.record.kind;
+        } }
+    {
+        let stops = stops(ahead.record.kind);
+        Side {
+            regs: regs_kept(ahead.regs, timed),
             left: left_after(self.left, stops, timed),
             stopped: is_either(self.stopped, stops),
-        })
+        }
+    }
+
+    /// The core without the registers that are dead.
+    pub(crate) fn forgetting(&self, dead: &Dead) -> Side
+        ensures { result ≡ side_forgotten dead.now.masks.items self.now }
+    {
+        Side {
+            regs: regs_forgetting(self.regs, dead),
+            left: self.left,
+            stopped: self.stopped,
+        }
     }
 }

@@ -1,5 +1,5 @@
 //! What is searched.
-ghost use Rattle.std.specs.Prelude.{◌≡◌, ℕ, Bool, ◌<◌, true, false, IfOk};
+ghost use Rattle.std.specs.Prelude.{◌≡◌, ℕ, Bool, ◌<◌, true, false, IfOk, IfSome, IfNone};
 
 use std::alloc::AllocError;
 
@@ -26,22 +26,17 @@ pub trait Machine {
     /// A number is the digest of a world.
     ghost IsMark: { Self → Self.World → ℕ → Type 0 };
 
-    /// Whether the search has to end before a core makes its turn.
-    fn is_barred(&self, world: &Self::World, core: u8) -> bool
-        requires { core < 2 }
-        ensures { result ≡ bars self.now core world.now };
-
-    /// Makes a turn of a core, before which the search need not end. The only error is running out of
+    /// Makes a turn of a core; None: the search has to end before it. The only error is running out of
     /// memory.
     fn turned(
         &self,
         desk: &mut Self::Desk,
         world: &Self::World,
         core: u8,
-    ) -> Result<Self::World, AllocError>
-        requires core { core < 2 }
-        requires free { bars self.now core world.now ≡ false }
-        ensures { IfOk result (λ w. Leads self.now core world.now w) };
+    ) -> Result<Option<Self::World>, AllocError>
+        requires { core < 2 }
+        ensures leads { IfOk result (λ r. IfSome r (λ w. Leads self.now core world.now w)) }
+        ensures barred { IfOk result (λ r. IfNone r (bars self.now core world.now ≡ true)) };
 
     /// Whether two worlds are the same: then a turn that leads to the second one leads to the first one
     /// too.

@@ -26,11 +26,10 @@ fn next<M: Machine>(
     requires free { graph.old.barred ≡ None }
     ensures { IfOk result (IsLed (M.Leads machine.now) (M.Same machine.now) (M.IsMark machine.now) (M.bars machine.now) graph.old graph.new from core most) }
 {
-    if machine.is_barred(&graph.kept[from].world, core) {
+    let Some(world) = machine.turned(desk, &graph.kept[from].world, core)? else {
         graph.barred = Some(Barred { from, core });
         return Ok(None);
-    }
-    let world = machine.turned(desk, &graph.kept[from].world, core)?;
+    };
     let digest = machine.digest(&world);
     if let Some(number) = graph.table.find(machine, &graph.kept, &world, digest) {
         return Ok(Some(number));

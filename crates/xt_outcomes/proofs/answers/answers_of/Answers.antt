@@ -3,13 +3,13 @@ use Rattle.xt_outcomes.proofs.answers.answers_of.Goals as goal
 
 pub returns : goal.returns
 returns c = rw (sym c.in_ok-search.ensures.timed) (record {
-  ending = c.ending_of-ended.ensures.ending;
+  ending = c.in_ok-search.ensures.ended.ending;
   real = c.in_ok-found.ensures.real;
   rising = c.in_ok-found.ensures.rising;
-  all = λ t. c.in_ok-found.ensures.all (c.ending_of-ended.ensures.all t);
+  all = λ t. c.in_ok-found.ensures.all (c.in_ok-search.ensures.ended.complete t);
   order = c.in_ok-stuck.ensures.order;
   stuck = c.in_ok-stuck.ensures.stuck;
   never_stuck = c.in_ok-stuck.ensures.none;
   race = c.in_ok-race.ensures.race;
-  no_race = λ t. c.in_ok-race.ensures.none (c.ending_of-ended.ensures.all t);
+  no_race = λ t. c.in_ok-race.ensures.none (c.in_ok-search.ensures.ended.complete t);
 })

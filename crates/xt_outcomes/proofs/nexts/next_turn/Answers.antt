@@ -1,7 +1,5 @@
-use Rattle.std.proofs.Common.{◌≡◌, Option, Some, None, subst, sym, ap, ◌∙◌}
-use Rattle.xt_map.specs.declared.access.Access.{Access}
+use Rattle.std.proofs.Common.{subst}
 use Rattle.xt_map.specs.Memory.{constant_byte}
-use Rattle.xt_map.specs.Regions.{is_mapped}
 use Rattle.xt_exec.specs.TurnLaws.{IsServed}
 use Rattle.xt_outcomes.proofs.Commuted.{next_served}
 use Rattle.xt_outcomes.proofs.nexts.next_turn.Goals as goal

@@ -1,5 +1,4 @@
-use Rattle.std.proofs.Common.{◌≡◌, ℕ, List, Option, Some, sym, ap, ◌∙◌, subst}
-use Rattle.xt_map.specs.declared.access.Access.{Access}
+use Rattle.std.proofs.Common.{◌≡◌, List, Some, sym, ap, ◌∙◌, subst}
 use Rattle.xt_map.specs.declared.segment.Segment.{Segment}
 use Rattle.xt_map.specs.Memory.{constant_byte}
 use Rattle.xt_map.specs.Serving.{reply_to}

@@ -1,4 +1,4 @@
-use Rattle.std.proofs.Common.{◌≡◌, ℕ, ◌+◌, List, length, Some, sym, ap, ◌∙◌, subst, true}
+use Rattle.std.proofs.Common.{◌≡◌, ℕ, Some, sym, subst, true}
 use Rattle.xt_trace.specs.Runs.{world_at_start}
 use Rattle.xt_trace.specs.Worlds.{advance}
 use Rattle.xt_exec.specs.Chips.{processor}

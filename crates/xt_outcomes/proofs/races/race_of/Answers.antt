@@ -13,7 +13,7 @@ use Rattle.xt_outcomes.specs.Orders.{world_after}
 use Rattle.xt_outcomes.specs.SpotRaces.{IsSpotRace}
 use Rattle.xt_outcomes.specs.Spots.{Spot}
 use Rattle.xt_outcomes.specs.declared.world.World.{World}
-use Rattle.xt_outcomes.proofs.Raced.{free_after, race_found, race_is_kept_after, spot_of_race}
+use Rattle.xt_outcomes.proofs.Raced.{free_after, kept_of_race, race_found, race_is_kept_after}
 use Rattle.xt_outcomes.proofs.Finding.{carried, meets_orders}
 use Rattle.xt_outcomes.proofs.races.race_of.Goals as goal
 
@@ -92,7 +92,7 @@ returns-clause-none c = λ whole order a b is race.
     let bytes = c.requires.search.bytes in
     let met = meets_orders c.args.image.now c.args.options.now s c.requires.search whole order is in
     let after = world_after (processor code) s.machine.timed (opening_of c.args.image.now c.args.options.now) order in
-    let raced = spot_of_race code bytes s.machine.timed after a b (free_after c.args.image.now c.args.options.now s order met bytes) race in
+    let raced = kept_of_race code bytes s.machine.dead.masks.items s.machine.timed after a b (free_after c.args.image.now c.args.options.now s order met bytes) race in
     let r = race_is_kept_after c.args.image.now c.args.options.now s order met a b raced in
     let many : c.len-number-end.result ≡ length s.graph.nexts.items = c.len-number-end.ensures ∙ s.graph.nexts.ok.0 in
     let past : c.len-number-end.result ≤ c.loop-number.number = c.loop-number-test.false in

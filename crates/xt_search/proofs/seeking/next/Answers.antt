@@ -22,8 +22,8 @@ add-requires-clause-room g c =
     let count : c.len-count.result ≡ length c.args.graph.now.kept.items = c.len-count.ensures ∙ c.args.graph.now.kept.ok.0 in
     room_for (g.M.Machine.IsMark c.args.machine.now) c.args.graph.now.table c.args.graph.now.kept.items c.args.most c.requires.kept.table (omega arith) (omega arith)
 
-pub returns-then-is_barred : goal.returns-then-is_barred
-returns-then-is_barred g c =
+pub returns-in_default : goal.returns-in_default
+returns-in_default g c =
     let old = c.args.graph.now in
     let here = slice_get_read old.kept.items (length old.kept.items) c.args.from c.index.result.now refl c.requires.from c.index.ensures in
     let h = c.requires.kept in
@@ -32,7 +32,7 @@ returns-then-is_barred g c =
         kept = record { graph = record { found = h.graph.found; nexts = h.graph.nexts; within = h.graph.within }; table = h.table; distinct = h.distinct };
         more = λ k w i. i;
         within = same_room (length old.kept.items) c.args.most;
-        barred = (c.index.result.now.world, at_kept old.kept.items c.args.from c.index.result.now here, c.requires.core, sym c.is_barred.ensures ∙ c.if-is_barred.true);
+        barred = (c.index.result.now.world, at_kept old.kept.items c.args.from c.index.result.now here, c.requires.core, rw c.in_default.is at c.in_ok-world.ensures.barred);
       };
       nexts = refl;
       free = tt;
@@ -40,11 +40,11 @@ returns-then-is_barred g c =
       leads = tt;
     }
 
-pub returns-in-Some : goal.returns-in-Some
-returns-in-Some g c =
+pub returns-in-Some-find : goal.returns-in-Some-find
+returns-in-Some-find g c =
     let old = c.args.graph.now in
     let ks = old.kept.items in
-    let here = slice_get_read ks (length ks) c.args.from c.index-2.result.now refl c.requires.from c.index-2.ensures in
+    let here = slice_get_read ks (length ks) c.args.from c.index.result.now refl c.requires.from c.index.ensures in
     record {
       grown = record {
         kept = c.requires.kept;
@@ -56,9 +56,9 @@ returns-in-Some g c =
       free = c.requires.free;
       full = tt;
       leads = λ w there.
-          let same : c.index-2.result.now.world ≡ w = at_once ks c.args.from c.index-2.result.now.world w (at_kept ks c.args.from c.index-2.result.now here) there in
-          let l = subst (λ (v : g.row.M-World.Denot). g.M.Machine.Leads c.args.machine.now c.args.core v c.in_ok-world.world) same c.in_ok-world.ensures in
-          let like = c.in-Some.ensures.like in
+          let same : c.index.result.now.world ≡ w = at_once ks c.args.from c.index.result.now.world w (at_kept ks c.args.from c.index.result.now here) there in
+          let l = subst (λ (v : g.row.M-World.Denot). g.M.Machine.Leads c.args.machine.now c.args.core v c.in-Some.world) same (rw c.in-Some.is at c.in_ok-world.ensures.leads) in
+          let like = c.in-Some-find.ensures.like in
           (like.0, like.1, like.2 c.args.core w l);
     }
 
@@ -86,10 +86,10 @@ returns g c =
     let old = c.args.graph.now in
     let ks = old.kept.items in
     let ns = old.nexts.items in
-    let x : Kept W = record { world = c.in_ok-world.world; from = c.args.from; core = c.args.core } in
+    let x : Kept W = record { world = c.in-Some.world; from = c.args.from; core = c.args.core } in
     let pushed = c.in_ok-push.ensures.items in
-    let here = slice_get_read ks (length ks) c.args.from c.index-2.result.now refl c.requires.from c.index-2.ensures in
-    let at = at_kept ks c.args.from c.index-2.result.now here in
+    let here = slice_get_read ks (length ks) c.args.from c.index.result.now refl c.requires.from c.index.ensures in
+    let at = at_kept ks c.args.from c.index.result.now here in
     let long : length c.push.new.self.items ≡ length ks + 1 = ap length pushed ∙ length_push ks x in
     let w : length ns ≤ length ks = c.requires.kept.graph.within in
     let count : c.len-count.result ≡ length ks = c.len-count.ensures ∙ old.kept.ok.0 in
@@ -98,13 +98,13 @@ returns g c =
       grown = record {
         kept = record {
           graph = record {
-            found = found_in Leads ks c.push.new.self.items x c.index-2.result.now.world pushed c.requires.kept.graph.found c.requires.from c.requires.core at c.in_ok-world.ensures;
+            found = found_in Leads ks c.push.new.self.items x c.index.result.now.world pushed c.requires.kept.graph.found c.requires.from c.requires.core at (rw c.in-Some.is at c.in_ok-world.ensures.leads);
             nexts = nexts_in Leads ks c.push.new.self.items ns x pushed c.requires.kept.graph.within c.requires.kept.graph.nexts;
             within = omega arith;
           };
           table = table_more (g.M.Machine.IsMark c.args.machine.now) old.table c.add.new.self ks c.push.new.self.items x c.digest-digest.result c.requires.kept.table
               c.in_ok-add.ensures.many c.in_ok-add.ensures.chained c.digest-digest.ensures pushed;
-          distinct = distinct_more (g.M.Machine.Same c.args.machine.now) ks c.push.new.self.items x c.requires.kept.distinct c.in_default.ensures.new pushed;
+          distinct = distinct_more (g.M.Machine.Same c.args.machine.now) ks c.push.new.self.items x c.requires.kept.distinct c.in_default-find.ensures.new pushed;
         };
         more = stays_in ks c.push.new.self.items x pushed;
         within = omega arith;
@@ -114,8 +114,8 @@ returns g c =
       free = c.requires.free;
       full = tt;
       leads = λ v there.
-          let same : c.index-2.result.now.world ≡ v = at_once ks c.args.from c.index-2.result.now.world v at there in
-          let l = subst (λ (u : W). Leads c.args.core u c.in_ok-world.world) same c.in_ok-world.ensures in
+          let same : c.index.result.now.world ≡ v = at_once ks c.args.from c.index.result.now.world v at there in
+          let l = subst (λ (u : W). Leads c.args.core u c.in-Some.world) same (rw c.in-Some.is at c.in_ok-world.ensures.leads) in
           let n = next_in Leads ks c.push.new.self.items x v pushed l in
           subst (λ (k : ℕ). IsNext Leads c.push.new.self.items c.args.core v k) (sym count) n;
     }

@@ -1,4 +1,4 @@
-use Rattle.std.proofs.Common.{ℕ, ◌==◌, ◌&&◌, ap, ◌∙◌}
+use Rattle.std.proofs.Common.{◌==◌, ◌&&◌, ap, ◌∙◌}
 use Rattle.xt_exec.specs.State.{State}
 use Rattle.xt_outcomes.specs.Spots.{Side}
 use Rattle.xt_outcomes.proofs.timed.TimedMachine.is_end.Goals as goal

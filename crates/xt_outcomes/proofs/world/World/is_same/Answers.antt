@@ -1,4 +1,4 @@
-use Rattle.std.proofs.Common.{◌≡◌, sym, ◌∙◌, false, true}
+use Rattle.std.proofs.Common.{sym, ◌∙◌}
 use Rattle.xt_outcomes.proofs.world.World.is_same.Goals as goal
 
 pub returns-clause-same : goal.returns-clause-same

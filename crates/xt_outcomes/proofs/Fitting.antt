@@ -1,0 +1,78 @@
+-- A turn fits by its record and the state after it.
+use Rattle.std.proofs.Common.{◌≡◌, ℕ, zero, suc, ◌<◌, Bool, true, false, cond, not, ◌&&◌, ◌||◌, Option, Some, None, List, refl, ap, ◌∙◌, arith, ne_eqb}
+use Rattle.std.specs.Prelude.{◌==◌}
+use Rattle.xt_trace.specs.declared.record.RegWrite.{RegWrite}
+use Rattle.xt_trace.specs.declared.record.StepRecord.{StepRecord}
+use Rattle.xt_special.specs.Control.{Control}
+use Rattle.xt_fetch.specs.Fetching.{fetch_at}
+use Rattle.xt_rows.specs.Settling.{write_with_reply}
+use Rattle.xt_exec.specs.State.{State}
+use Rattle.xt_exec.specs.Turn.{demand, planned_turn, turn, with_write}
+use Rattle.xt_outcomes.specs.Dead.{are_fit, dead_at, fits, is_live, reads_of}
+use Rattle.xt_outcomes.specs.Nexts.{misfits, next_bars}
+use Rattle.xt_outcomes.specs.Places.{is_local, is_own_access}
+use Rattle.xt_outcomes.specs.SpotRaces.{next_of}
+use Rattle.xt_outcomes.specs.Spots.{Side, side_bars}
+use Rattle.xt_outcomes.specs.declared.places.Place.{Place}
+use Rattle.xt_outcomes.proofs.Forgetting.{same_stay, same_written, state_is, write_is}
+
+base_stays : (w : Option RegWrite) (a : State) → (with_write w a).base ≡ a.base
+base_stays None a = refl
+base_stays (Some w) a = refl
+
+control_stays : (w : Option RegWrite) (a : State) → (with_write w a).control ≡ a.control
+control_stays None a = refl
+control_stays (Some w) a = refl
+
+module _ (code : ℕ → ℕ) (ms : List ℕ) (s : State) (reply : ℕ) where
+  abbrev test : State → Option RegWrite → Type 0
+  test u w = are_fit (dead_at ms s.control.pc) (reads_of (fetch_at code s.control.pc)) (u.base == s.base) w (dead_at ms u.control.pc) ≡ fits code ms s
+
+  turn_fits : test (turn code s reply).1 (turn code s reply).0.write
+  turn_fits =
+      let p = planned_turn code s in
+      let d = dead_at ms s.control.pc in
+      let o = reads_of (fetch_at code s.control.pc) in
+      let w = (turn code s reply).0.write in
+      let base : (turn code s reply).1.base ≡ p.after.base = ap (λ (u : State). u.base) (state_is code ms s reply) ∙ base_stays w p.after in
+      let control : (turn code s reply).1.control ≡ p.after.control = ap (λ (u : State). u.control) (state_is code ms s reply) ∙ control_stays w p.after in
+      let later = dead_at ms p.after.control.pc in
+      ap (λ (b : ℕ). are_fit d o (b == s.base) w (dead_at ms (turn code s reply).1.control.pc)) base
+      ∙ ap (λ (c : Control). are_fit d o (p.after.base == s.base) w (dead_at ms c.pc)) control
+      ∙ ap (λ (v : Option RegWrite). are_fit d o (p.after.base == s.base) v later) (write_is code ms s reply)
+      ∙ (λ i. (d == 0) || (is_live d o.0 && (is_live d o.1 && ((p.after.base == s.base) && same_stay (write_with_reply p.write p.awaited reply) (write_with_reply p.write p.awaited 0) d later 16 (same_written p.write p.awaited reply 0) i))))
+
+  pub fit_is : (x : StepRecord) (u : State) → (x, u) ≡ turn code s reply → test u x.write
+  fit_is x u e =
+      ap (λ (t : StepRecord × State). are_fit (dead_at ms s.control.pc) (reads_of (fetch_at code s.control.pc)) (t.1.base == s.base) t.0.write (dead_at ms t.1.control.pc)) e ∙ turn_fits
+
+-- ---- what is tested of a core
+
+never : (b : Bool) → (b && false) ≡ false
+never true = refl
+never false = refl
+
+some_left : (n : ℕ) → 0 < n → (n == 0) ≡ false
+some_left zero h = absurd (omega arith)
+some_left (suc n) h = ne_eqb (suc n) 0 (λ (e : suc n ≡ 0). omega arith)
+
+module _ (code : ℕ → ℕ) (timed : Bool) (ms : List ℕ) (s : Side State) where
+  pub bars_none : side_bars code timed s ≡ false → fits code ms s.state ≡ true → next_bars code timed ms s ≡ false
+  bars_none e f =
+      ap (λ (b : Bool). b || misfits code ms s) e ∙ ap (λ (b : Bool). not (s.left == 0) && not b) f ∙ never (not (s.left == 0))
+
+  pub bars_time : side_bars code timed s ≡ true → next_bars code timed ms s ≡ true
+  bars_time e = ap (λ (b : Bool). b || misfits code ms s) e
+
+  pub bars_misfit : 0 < s.left → side_bars code timed s ≡ false → fits code ms s.state ≡ false → next_bars code timed ms s ≡ true
+  bars_misfit some e f =
+      ap (λ (b : Bool). b || misfits code ms s) e ∙ ap (λ (b : Bool). not b && not (fits code ms s.state)) (some_left s.left some) ∙ ap not f
+
+  module _ (ps : List Place) (c : ℕ) where
+    pub local_is : (b : Bool) → 0 < s.left → next_bars code timed ms s ≡ false → is_own_access ps c (demand code s.state) ≡ b → is_local code timed ms ps c s ≡ b
+    local_is b some e f =
+        let left = some_left s.left some in
+        (λ i. not (left i) && (not (e i) && is_own_access ps c (cond (left i) None (demand code s.state)))) ∙ f
+
+    pub not_local : next_bars code timed ms s ≡ true → is_local code timed ms ps c s ≡ false
+    not_local e = ap (λ (b : Bool). not (s.left == 0) && (not b && is_own_access ps c (next_of code s))) e ∙ never (not (s.left == 0))

@@ -1,0 +1,18 @@
+use Rattle.std.proofs.Common.{ap, ◌∙◌}
+use Rattle.xt_map.specs.declared.contents.MemoryContents.{MemoryContents}
+use Rattle.xt_changes.specs.Changed.{contents_of}
+use Rattle.xt_exec.specs.State.{State}
+use Rattle.xt_outcomes.specs.Dead.{side_forgotten}
+use Rattle.xt_outcomes.specs.Spots.{Side, Spot}
+use Rattle.xt_outcomes.proofs.timed.Timed.forgetting.Goals as goal
+
+pub returns-clause-spot : goal.returns-clause-spot
+returns-clause-spot c =
+    let t = c.args.self.now in
+    let m = t.opening.contents in
+    let ms = t.dead.masks.items in
+    let make : Side State → Side State → MemoryContents → Spot State = λ x y k. record { side0 = x; side1 = y; memory = k } in
+    let side0 = c.forgetting-side0.ensures ∙ ap (side_forgotten ms) (c.side.ensures m) in
+    let side1 = c.forgetting-side1.ensures ∙ ap (side_forgotten ms) (c.side-2.ensures m) in
+    let changes = c.in_ok-changes.ensures ∙ c.deref.ensures in
+    c.in_ok-next.ensures.spot m ∙ (λ i. make (side0 i) (side1 i) (contents_of m (changes i)))
