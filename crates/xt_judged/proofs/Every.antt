@@ -34,7 +34,7 @@ pub carried : (F : (ℕ → ℕ) → Bool → MemoryContents → Type 0) (xs ys 
 carried F xs ys a b m n e f g h =
     subst (F (constant_byte ys) b) g (subst (λ (t : Bool). F (constant_byte ys) t m) f (subst (λ (l : List Segment). F (constant_byte l) a m) e h))
 
-reaches_last : {W : Type 0} (L : ℕ → W → W → Type 0) (cs : List ℕ) (c : ℕ) (v w : W) → Reaches L (cs ++ c ∷ []) v w → (u : W) × Reaches L cs v u × L c u w
+pub reaches_last : {W : Type 0} (L : ℕ → W → W → Type 0) (cs : List ℕ) (c : ℕ) (v w : W) → Reaches L (cs ++ c ∷ []) v w → (u : W) × Reaches L cs v u × L c u w
 reaches_last {W} L [] c v w h = (v, refl, subst (λ (x : W). L c v x) h.2 h.1)
 reaches_last {W} L (d ∷ ds) c v w h =
     let r = reaches_last L ds c h.0 w h.2 in
@@ -87,7 +87,7 @@ module _ (image : Image) (o : Options) (timed : Bool) (n : ℕ) (g : Graph kept.
       reached (code_of image) timed n (memory_of image o) runs w u r
       ∙ (λ i. after (stretch (code_of image) (opens.judged0 i) (opens.judged1 i) timed n) runs (opens.scene i))
 
-  module _ (all : HasAll Turns g) (none : ShowsNone g) where
+  module _ (all : HasAll Turns g) (none : ShowsNone (λ (v : kept.Scene). v.breach) g) where
     abbrev IsKept : Scene → Type 0
     IsKept z = (runs : List ℕ) × IsOrder runs × (z ≡ after stretches runs (first_scene image o timed))
 

@@ -1,8 +1,10 @@
 -- Bytes that become stale where a call is gone, one by one and area by area.
 use Rattle.std.proofs.Common.{◌≡◌, ℕ, ◌+◌, ◌-◌, ◌<◌, ◌≤◌, ◌^◌, Bool, true, false, not, ◌||◌, ◌&&◌, eqb, Option, Some, None, List, [], ◌∷◌, length, refl, sym, ap, ◌∙◌, subst, arith}
-use Rattle.std.proofs.lemmas.Bool.{eqb-true, true≢false}
+use Rattle.std.proofs.lemmas.Bool.{eqb-true, or_parts, true≢false}
 use Rattle.std.proofs.lemmas.Bool.Decides.{nat_tests}
+use Rattle.xt_map.specs.declared.access.Access.{Access}
 use Rattle.xt_map.specs.Touching.{touches}
+use Rattle.xt_frames.specs.Breaches.{stores_at}
 use Rattle.xt_frames.specs.Frames.{Frame, FrameState}
 use Rattle.xt_frames.specs.Stacks.{Stack}
 use Rattle.xt_discipline.specs.declared.side.Areas.{Areas}
@@ -10,6 +12,7 @@ use Rattle.xt_discipline.specs.Sides.{IsCallOf, in_areas}
 use Rattle.xt_discipline.proofs.Lives.{opened_inside}
 use Rattle.xt_discipline.proofs.Marks.{touches_none}
 use Rattle.xt_judged.specs.Past.{HasRoom}
+use Rattle.xt_judged.specs.Stales.{among, some_stored}
 use Rattle.xt_judged.proofs.SeenAs.{and_false, and_true}
 
 -- ---- one byte more of so many
@@ -107,10 +110,24 @@ pub both_gone : (s w t u n : Bool) → (((s && (not w && not false)) || (t && n)
 both_gone s w t u n = ap (λ (x : Bool). (x || (t && n)) || (u && n)) (no_call s w) ∙ gather (s && not w) t u n
 
 -- no store writes it
-pub unwritten : (s w : Bool) → (s && w) ≡ false → s ≡ (s && not w)
+unwritten : (s w : Bool) → (s && w) ≡ false → s ≡ (s && not w)
 unwritten true true h = absurd (true≢false h)
 unwritten true false h = refl
 unwritten false w h = refl
+
+stored_none : (xs : List ℕ) (access : Option Access) (a : ℕ) → some_stored xs access ≡ false → (among xs a && stores_at access a) ≡ false
+stored_none [] access a h = refl
+stored_none (x ∷ xs) access a h =
+    let parts = or_parts (stores_at access x) (some_stored xs access) h in
+    by_test (eqb x a) refl parts.0 (stored_none xs access a parts.1)
+  where
+    by_test : (t : Bool) → eqb x a ≡ t → stores_at access x ≡ false → (among xs a && stores_at access a) ≡ false → (among (x ∷ xs) a && stores_at access a) ≡ false
+    by_test true e none rest = ap (λ (b : ℕ). among (x ∷ xs) a && stores_at access b) (sym (eqb-true x a e)) ∙ (ap (λ (s : Bool). among (x ∷ xs) a && s) none ∙ and_false (among (x ∷ xs) a))
+    by_test false e none rest = ap (λ (t : Bool). (t || among xs a) && stores_at access a) e ∙ rest
+
+-- a store that writes none of the bytes leaves them
+pub all_left : (xs : List ℕ) (access : Option Access) (a : ℕ) → some_stored xs access ≡ false → among xs a ≡ (among xs a && not (stores_at access a))
+all_left xs access a h = unwritten (among xs a) (stores_at access a) (stored_none xs access a h)
 
 -- ---- the addresses of a call's areas
 

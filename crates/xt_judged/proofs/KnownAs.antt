@@ -21,18 +21,18 @@ not_stale true x h = absurd (true≢false (sym h))
 not_stale false x h = refl
 
 -- the core has as many special registers as before
-pub as_many : (old new other : Walked) (stale : ℕ → Bool) (rec : StepRecord) (seen : Seen) (p : Passed)
+pub as_many : (old new : Walked) (other : Option Walked) (stale : ℕ → Bool) (rec : StepRecord) (seen : Seen) (p : Passed)
     → IsSeenAs old new other stale rec seen (Ok p) → length new.state.control.special ≡ length old.state.control.special
 as_many old new other stale rec (Handled st) p h = ap (λ (w : Walked). length w.state.control.special) h.1
 as_many old new other stale rec (Judges st after) p h = h.4
 as_many old new other stale rec (Breaks kind) p h = absurd h
 
-module _ (own other : kept.Standing) (new : Walked) (stale : List ℕ) (rec : StepRecord) (p : Passed) (k : Known)
+module _ (own : kept.Standing) (other : Option Walked) (new : Walked) (stale : List ℕ) (rec : StepRecord) (p : Passed) (k : Known)
     (frames : k.standing.frames ≡ record new { fresh = fresh_before new 1; next = 0 })
     (phase : k.standing.phase ≡ p.phase)
     (same : p.judged ≡ false → k.stale ≡ None)
     (after_is : p.judged ≡ true → new.bounds ≡ own.frames.bounds → Moves own.frames.state new.state → (a : ℕ)
-    → among (renewed stale k.stale) a ≡ stale_after (is_live_in new other.frames) (is_live_in own.frames other.frames) (among stale) rec.access a) where
+    → among (renewed stale k.stale) a ≡ stale_after (is_live_in new other) (is_live_in own.frames other) (among stale) rec.access a) where
   state_is : k.standing.frames.state ≡ new.state
   state_is = ap (λ (w : Walked). w.state) frames
 
@@ -42,13 +42,13 @@ module _ (own other : kept.Standing) (new : Walked) (stale : List ℕ) (rec : St
   fresh_is : k.standing.frames.fresh ≡ fresh_before new 1
   fresh_is = ap (λ (w : Walked). w.fresh) frames
 
-  live_is : (a : ℕ) → is_live_in k.standing.frames other.frames a ≡ is_live_in new other.frames a
-  live_is a = ap (λ (w : Walked). is_live_in w other.frames a) frames
+  live_is : (a : ℕ) → is_live_in k.standing.frames other a ≡ is_live_in new other a
+  live_is a = ap (λ (w : Walked). is_live_in w other a) frames
 
   same_bytes : p.judged ≡ false → among (renewed stale k.stale) ≡ among stale
   same_bytes e = ap (λ (s : Option (List ℕ)). among (renewed stale s)) (same e)
 
-  pub known_as : own.frames.next ≡ 0 → (seen : Seen) → IsSeenAs own.frames new other.frames (among stale) rec seen (Ok p) → IsKnownPast own stale seen (Ok k)
+  pub known_as : own.frames.next ≡ 0 → (seen : Seen) → IsSeenAs own.frames new other (among stale) rec seen (Ok p) → IsKnownPast own stale seen (Ok k)
   known_as first (Handled st) h =
       let not_fresh : k.standing.frames.fresh ≡ false =
       fresh_is ∙ (ap (λ (w : Walked). fresh_before w 1) h.1 ∙ (ap (λ (n : ℕ). own.frames.fresh && eqb n 1) first ∙ and_false own.frames.fresh)) in
@@ -66,24 +66,24 @@ module _ (own other : kept.Standing) (new : Walked) (stale : List ℕ) (rec : St
       )
   known_as first (Breaks kind) h = absurd h
 
-  pub apart_as : AreApart own.frames other.frames stale → (seen : Seen) → IsSeenAs own.frames new other.frames (among stale) rec seen (Ok p) → IsApartPast other stale (Ok k)
+  pub apart_as : AreApart own.frames other stale → (seen : Seen) → IsSeenAs own.frames new other (among stale) rec seen (Ok p) → IsApartPast other stale (Ok k)
   apart_as apart (Handled st) h = λ a t.
-      live_is a ∙ (ap (λ (w : Walked). is_live_in w other.frames a) h.1 ∙ apart a (sym (ap (λ (f : ℕ → Bool). f a) (same_bytes h.0)) ∙ t))
+      live_is a ∙ (ap (λ (w : Walked). is_live_in w other a) h.1 ∙ apart a (sym (ap (λ (f : ℕ → Bool). f a) (same_bytes h.0)) ∙ t))
   apart_as apart (Judges st after) h = λ a t.
-      live_is a ∙ not_stale (is_live_in new other.frames a) (is_live_in own.frames other.frames a || (among stale a && not (stores_at rec.access a)))
+      live_is a ∙ not_stale (is_live_in new other a) (is_live_in own.frames other a || (among stale a && not (stores_at rec.access a)))
       (sym (after_is h.0 h.1 h.3 a) ∙ t)
   apart_as apart (Breaks kind) h = absurd h
 
 -- what is seen of the core's kept frames
-pub seen_of : (code : ℕ → ℕ) (own other : kept.Standing) (old new : Walked) (stale : List ℕ) (rec : StepRecord) (r s : Result Passed Breach) → old ≡ own.frames → r ≡ s
-    → IsSeenAs old new other.frames (among stale) rec (seen_by code old own.phase other.frames (among stale) rec) r
-    → IsSeenAs own.frames new other.frames (among stale) rec (seen_by code own.frames own.phase other.frames (among stale) rec) s
+pub seen_of : (code : ℕ → ℕ) (own : kept.Standing) (other : Option Walked) (old new : Walked) (stale : List ℕ) (rec : StepRecord) (r s : Result Passed Breach) → old ≡ own.frames → r ≡ s
+    → IsSeenAs old new other (among stale) rec (seen_by code old own.phase other (among stale) rec) r
+    → IsSeenAs own.frames new other (among stale) rec (seen_by code own.frames own.phase other (among stale) rec) s
 seen_of code own other old new stale rec r s e f h =
-    subst (λ (w : Walked). IsSeenAs w new other.frames (among stale) rec (seen_by code w own.phase other.frames (among stale) rec) s) e
-    (subst (λ (x : Result Passed Breach). IsSeenAs old new other.frames (among stale) rec (seen_by code old own.phase other.frames (among stale) rec) x) f h)
+    subst (λ (w : Walked). IsSeenAs w new other (among stale) rec (seen_by code w own.phase other (among stale) rec) s) e
+    (subst (λ (x : Result Passed Breach). IsSeenAs old new other (among stale) rec (seen_by code old own.phase other (among stale) rec) x) f h)
 
 -- a breach
-pub breach_as : (own : kept.Standing) (old new other : Walked) (stale : List ℕ) (rec : StepRecord) (seen : Seen) (b : Breach)
+pub breach_as : (own : kept.Standing) (old new : Walked) (other : Option Walked) (stale : List ℕ) (rec : StepRecord) (seen : Seen) (b : Breach)
     → IsSeenAs old new other (among stale) rec seen (Err b) → IsKnownPast own stale seen (Err b.kind)
 breach_as own old new other stale rec (Handled st) b h = absurd h
 breach_as own old new other stale rec (Judges st after) b h = absurd h

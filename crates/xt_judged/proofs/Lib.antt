@@ -18,7 +18,16 @@ pub mod Stepping
 pub mod Sight
 pub mod Clocked
 pub mod Once
+pub mod Within
+pub mod OneJudge
+pub mod WatchedTurns
+pub mod WatchedMade
+pub mod JudgePast
+pub mod WatchedEvery
+pub mod WatchedScenes
+pub mod WatchedWhole
 pub mod Verdicts
+pub mod Trees
 pub mod Whole
 pub mod Rows
 pub mod Words

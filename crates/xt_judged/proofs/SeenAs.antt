@@ -11,11 +11,10 @@ use Rattle.xt_frames.specs.FrameStep.{with_inputs}
 use Rattle.xt_frames.specs.HandlerSteps.{closes, is_window, phase_after}
 use Rattle.xt_frames.specs.Judging.{Seen, fresh_on, handled_record, seen_judged, seen_step, seen_window, step_on}
 use Rattle.xt_frames.specs.Nesting.{current, is_nesting}
-use Rattle.xt_frames.specs.SaveAreas.{is_live}
 use Rattle.xt_frames.specs.Stacks.{Moves}
 use Rattle.xt_frames.specs.Walked.{IsJudged, Walked, found_in, fresh_before}
 use Rattle.xt_judged.specs.declared.seeing.Passed.{Passed}
-use Rattle.xt_judged.specs.Lives.{is_live_in}
+use Rattle.xt_judged.specs.Lives.{is_live_in, others_live}
 use Rattle.xt_judged.specs.Seen.{IsSeenAs, seen_by, standing_at}
 use Rattle.xt_judged.proofs.Count.{count_kept}
 
@@ -40,9 +39,9 @@ abbrev pub passed : HandlerPhase → Result Unit Breach → Result Passed Breach
 passed next (Ok u) = Ok (record { phase = next; judged = true })
 passed next (Err b) = Err b
 
-module _ (code : ℕ → ℕ) (old new other : Walked) (stale : ℕ → Bool) (rec : StepRecord) where
+module _ (code : ℕ → ℕ) (old new : Walked) (other : Option Walked) (stale : ℕ → Bool) (rec : StepRecord) where
   abbrev others : ℕ → Bool
-  others a = is_live other.bounds.range other.state a
+  others = others_live other
 
   module _ (nested : Bool) (p next : HandlerPhase) (first : old.next ≡ 0) (phase : next ≡ phase_after code p rec) where
     abbrev found : Option BreachKind
@@ -119,12 +118,12 @@ module _ (code : ℕ → ℕ) (old new other : Walked) (stale : ℕ → Bool) (r
       (sym e) (refl, same, (λ i. record { frame = old.state; fresh = false; phase = next_is i }))
 
 -- the record of a window exception
-pub tested : (own other : Walked) (stale : ℕ → Bool) (rec : StepRecord) (k : Option BreachKind) → k ≡ None
+pub tested : (own : Walked) (other : Option Walked) (stale : ℕ → Bool) (rec : StepRecord) (k : Option BreachKind) → k ≡ None
     → IsSeenAs own own other stale rec (seen_window k own.state) (Ok (record { phase = InHandler; judged = false }))
 tested own other stale rec k e =
     subst (λ (x : Option BreachKind). IsSeenAs own own other stale rec (seen_window x own.state) (Ok (record { phase = InHandler; judged = false }))) (sym e) (refl, refl, refl)
 
-pub tested_breach : (own other : Walked) (stale : ℕ → Bool) (rec : StepRecord) (k : Option BreachKind) (b : Breach) → k ≡ Some b.kind
+pub tested_breach : (own : Walked) (other : Option Walked) (stale : ℕ → Bool) (rec : StepRecord) (k : Option BreachKind) (b : Breach) → k ≡ Some b.kind
     → IsSeenAs own own other stale rec (seen_window k own.state) (Err b)
 tested_breach own other stale rec k b e =
     subst (λ (x : Option BreachKind). IsSeenAs own own other stale rec (seen_window x own.state) (Err b)) (sym e) refl

@@ -13,7 +13,7 @@ use Rattle.xt_discipline.specs.Sides.{IsNewestCall, in_areas}
 use Rattle.xt_discipline.proofs.Lives.{live_more}
 use Rattle.xt_frames.specs.Breaches.{Bounds}
 use Rattle.xt_frames.specs.Walked.{Walked}
-use Rattle.xt_judged.specs.Lives.{AreApart, is_live_in}
+use Rattle.xt_judged.specs.Lives.{AreApart, is_live_in, others_live}
 use Rattle.xt_judged.specs.Stales.{among}
 
 -- ---- one byte: live before, live for the other core, stale, stored, in the areas of the call
@@ -114,9 +114,9 @@ module _ (r : Range) (f g : FrameState) (m : Moves f g) (others : ℕ → Bool) 
 
 -- ---- by the cores
 
-module _ (own w other : Walked) (stale : List ℕ) (access : Option Access) (bounds : own.bounds ≡ w.bounds) (m : Moves w.state own.state) (apart : AreApart w other stale) where
+module _ (own w : Walked) (other : Option Walked) (stale : List ℕ) (access : Option Access) (bounds : own.bounds ≡ w.bounds) (m : Moves w.state own.state) (apart : AreApart w other stale) where
   abbrev others : ℕ → Bool
-  others a = is_live other.bounds.range other.state a
+  others = others_live other
 
   abbrev after : ℕ → Bool
   after a = stale_after (is_live_in own other) (is_live_in w other) (among stale) access a

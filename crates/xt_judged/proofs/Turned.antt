@@ -51,10 +51,10 @@ or_swap true q e = absurd (true≢false e)
 or_swap false true e = absurd (true≢false e)
 or_swap false false e = refl
 
-pub apart_swap : (a b : Walked) (bytes : List ℕ) → AreApart a b bytes → AreApart b a bytes
+pub apart_swap : (a b : Walked) (bytes : List ℕ) → AreApart a (Some b) bytes → AreApart b (Some a) bytes
 apart_swap a b bytes h = λ x e. or_swap (is_live a.bounds.range a.state x) (is_live b.bounds.range b.state x) (h x e)
 
-pub apart_of : (c : ℕ) (v : kept.Scene) → AreApart (own_of c v).frames (other_of c v).frames v.stale.value
+pub apart_of : (c : ℕ) (v : kept.Scene) → AreApart (own_of c v).frames (Some (other_of c v).frames) v.stale.value
 apart_of zero v = v.apart
 apart_of (suc c) v = apart_swap v.standing0.value.frames v.standing1.value.frames v.stale.value v.apart
 
@@ -71,14 +71,14 @@ seen_is code zero m v rec = refl
 seen_is code (suc c) m v rec = refl
 
 -- the judge sees in the record what the definition sees in the scene
-pub known_in : {E : Type 0} (code : ℕ → ℕ) (c : ℕ) (m : MemoryContents) (v : kept.Scene) (rec : StepRecord) (own other : standing.Standing) (stale : List ℕ) (r : Result (Result Known BreachKind) E)
-    → own ≡ own_of c v → other ≡ other_of c v → stale ≡ v.stale.value
-    → IfOk r (IsKnownPast own stale (seen_record code own.frames.bounds (standing_of own) (is_live other.frames.bounds.range other.frames.state) (among stale) rec))
+pub known_in : {E : Type 0} (code : ℕ → ℕ) (c : ℕ) (m : MemoryContents) (v : kept.Scene) (rec : StepRecord) (own : standing.Standing) (other : Walked) (stale : List ℕ) (r : Result (Result Known BreachKind) E)
+    → own ≡ own_of c v → other ≡ (other_of c v).frames → stale ≡ v.stale.value
+    → IfOk r (IsKnownPast own stale (seen_record code own.frames.bounds (standing_of own) (is_live other.bounds.range other.state) (among stale) rec))
     → IfOk r (IsKnownPast (own_of c v) v.stale.value (seen_at code (bounds0 v) (bounds1 v) c (scene_of m v) rec))
 known_in {E} code c m v rec own other stale r e f g h =
-    let At : standing.Standing → standing.Standing → List ℕ → Type 0 = λ x y z.
-    IfOk r (IsKnownPast x z (seen_record code x.frames.bounds (standing_of x) (is_live y.frames.bounds.range y.frames.state) (among z) rec)) in
-    let here = subst (λ (x : standing.Standing). At x (other_of c v) v.stale.value) e (subst (λ (y : standing.Standing). At own y v.stale.value) f (subst (λ (z : List ℕ). At own other z) g h)) in
+    let At : standing.Standing → Walked → List ℕ → Type 0 = λ x y z.
+    IfOk r (IsKnownPast x z (seen_record code x.frames.bounds (standing_of x) (is_live y.bounds.range y.state) (among z) rec)) in
+    let here = subst (λ (x : standing.Standing). At x (other_of c v).frames v.stale.value) e (subst (λ (y : Walked). At own y v.stale.value) f (subst (λ (z : List ℕ). At own other z) g h)) in
     subst (λ (s : Seen). IfOk r (IsKnownPast (own_of c v) v.stale.value s)) (seen_is code c m v rec) here
 
 -- ---- turns that use time

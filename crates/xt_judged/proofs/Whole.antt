@@ -13,6 +13,7 @@ use Rattle.xt_trace.specs.Short.{short_run, short_trace}
 use Rattle.xt_trace.specs.Traces.{Traced}
 use Rattle.xt_trace.proofs.Short.{HasPlaces, run_has_places}
 use Rattle.xt_trace.proofs.Walks.{own_walk}
+use Rattle.xt_fetch.specs.Code.{AreBytes}
 use Rattle.xt_exec.specs.Chips.{processor}
 use Rattle.xt_exec.specs.State.{State}
 use Rattle.xt_frames.specs.Breaches.{Bounds}
@@ -21,14 +22,12 @@ use Rattle.xt_frames.specs.Judging.{opening_standing}
 use Rattle.xt_frames.specs.Verdict.{Judgement, judgement, opening_known, verdict, verdict_on}
 use Rattle.xt_core.specs.Runs as core
 use Rattle.xt_core.specs.Runs.{code_of, opening_of, records_of}
-use Rattle.xt_discipline.specs.Verdicts.{opened0, opened1}
+use Rattle.xt_discipline.specs.Verdicts.{judgement_in, opened0, opened1}
 use Rattle.xt_search.specs.Worlds.{IsOrder}
 use Rattle.xt_timeless.proofs.Lists.{alike_refl}
 use Rattle.xt_outcomes.specs.Spots.{spot_in}
-use Rattle.xt_judged.specs.Laws.{AllAreWholeWhereNoSceneBreaks, NoneBreaksWhereNoSceneDoes, NoneBreaksWithoutTime}
+use Rattle.xt_judged.specs.Laws.{AllAreWholeWhereNoSceneBreaks}
 use Rattle.xt_judged.specs.Scenes.{Scene, opening_scene, scene_bars, scene_past, scenes_after}
-use Rattle.xt_report.specs.Framed.{judgement_of}
-use Rattle.xt_report.proofs.Judging.{judgement_is}
 use Rattle.xt_judged.specs.Runs.{IsVerdictOf, are_checked}
 use Rattle.xt_judged.proofs.Verdicts.{verdict_is}
 use Rattle.xt_judged.proofs.Clocked as clocked
@@ -64,7 +63,22 @@ module _ (P : Chip State) (code : ℕ → ℕ) (b0 b1 : Bounds) (with_time : Boo
   pub led_on : (c : ℕ) (z : Scene) → c < 2 → Led z → Led (scene_past P code b0 b1 with_time c z)
   led_on c z less h = (h.0 ++ c ∷ [], with_one h.0 c h.1 less, one_more P code b0 b1 with_time h.0 c opening ∙ ap (scene_past P code b0 b1 with_time c) h.2)
 
-pub none_breaks : NoneBreaksWhereNoSceneDoes
+-- where the turns of no order show the judge a breach, though a core that has made a turn without an
+-- access goes on alone up to its next access, no run of the opening shows one in its own schedule
+abbrev NoneBreaksWhereNoSceneDoes : Type 0
+NoneBreaksWhereNoSceneDoes =
+    (P : Chip State) (code : ℕ → ℕ) (b0 b1 : Bounds) (f0 f1 : FrameState) (o : Opening State)
+    (r : chips.Run State)
+    → ((order : List ℕ) → IsOrder order
+    → (scenes_after P code b0 b1 true order
+    (opening_scene f0 f1 (spot_in true (world_at_start o)))).breach
+    ≡ None)
+    → IsRunOf P o r
+    → (judgement code b0 b1 (schedule_of r) r.trace0.records r.trace1.records
+    (opening_known f0 f1)).breach
+    ≡ None
+
+none_breaks : NoneBreaksWhereNoSceneDoes
 none_breaks P code b0 b1 f0 f1 o r free is =
     let opening = opening_scene f0 f1 (spot_in true (world_at_start o)) in
     let R = Led P code b0 b1 true opening in
@@ -79,7 +93,26 @@ none_breaks P code b0 b1 f0 f1 o r free is =
 opens_so : (f : FrameState) → IsKeptStanding (opening_standing f) (opening_standing f)
 opens_so f = record { frame = record { list = f.control.special; alike = alike_refl f.control.special; is = refl }; fresh = refl; phase = refl }
 
-pub none_breaks_untimed : NoneBreaksWithoutTime
+-- the same where time belongs to no scene, whatever turns the cores have, where no turn uses time
+abbrev NoneBreaksWithoutTime : Type 0
+NoneBreaksWithoutTime =
+    (code : ℕ → ℕ) (b0 b1 : Bounds) (f0 f1 : FrameState) (o : Opening State) (n m : ℕ)
+    (r : chips.Run State)
+    → AreBytes code
+    → ((order : List ℕ) → IsOrder order
+    → (scenes_after (processor code) code b0 b1 false order
+    (opening_scene f0 f1 (spot_in false (world_at_start o)))).breach
+    ≡ None)
+    → ((order : List ℕ) (c : ℕ) → IsOrder order → c < 2
+    → scene_bars code false c (scenes_after (processor code) code b0 b1 false order
+    (opening_scene f0 f1 (spot_in false (world_at_start o))))
+    ≡ false)
+    → IsRunOf (processor code) (record o { turns0 = n; turns1 = m }) r
+    → (judgement code b0 b1 (schedule_of r) r.trace0.records r.trace1.records
+    (opening_known f0 f1)).breach
+    ≡ None
+
+none_breaks_untimed : NoneBreaksWithoutTime
 none_breaks_untimed code b0 b1 f0 f1 o n m r bytes free unused is =
     let P = processor code in
     let given : Opening State = record o { turns0 = n; turns1 = m } in
@@ -117,13 +150,17 @@ walk_by image r o =
     let s = recorded image r in
     judgement (code_of image) (opened0 image o).bounds (opened1 o).bounds (schedule_of s) s.trace0.records s.trace1.records (opening_known (opened0 image o).state (opened1 o).state)
 
+-- as `run` goes over it
+abbrev judgement_of : Image → Run → Judgement
+judgement_of image r = judgement_in image r (records_of 0 image r).records (records_of 1 image r).records
+
 walk_is : (image : Image) (r : Run) → core.IsRunOf image r → walk_by image r r.options ≡ judgement_of image r
 walk_is image r is =
     let o = r.options in
     let J : List ℕ → Judgement = λ s. judgement (code_of image) (opened0 image o).bounds (opened1 o).bounds s (records_of 0 image r).records (records_of 1 image r).records (opening_known (opened0 image o).state (opened1 o).state) in
     let own : schedule_of (recorded image r) ≡ schedule_in r =
     λ i. schedule (cores_of r.history) (sym is.trace0.places_are i) (sym is.trace0.count_is i) (sym is.trace1.places_are i) (sym is.trace1.count_is i) in
-    ap J own ∙ judgement_is image r is
+    ap J own
 
 whole_of : (image : Image) (r : Run) → core.IsRunOf image r → are_checked image r.options ≡ true → (walk_by image r r.options).breach ≡ None → IsVerdictOf image r None
 whole_of image r is checked none =

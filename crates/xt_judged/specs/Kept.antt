@@ -1,7 +1,7 @@
 -- Carries a proof; nothing that a reader must believe.
 -- What stands for a scene in a search.
-use Rattle.std.specs.Prelude.{◌≡◌, ℕ, zero, suc, Bool, false, not, ◌&&◌, Option, None, List}
-use Rattle.std.specs.Prelude.{is_some, option_map}
+use Rattle.std.specs.Prelude.{◌≡◌, ℕ, zero, suc, ◌<◌, ◌≤◌, Bool, false, not, ◌&&◌, Option, Some}
+use Rattle.std.specs.Prelude.{None, List, is_some, option_map, slice_get}
 use Rattle.xt_map.specs.declared.contents.MemoryContents.{MemoryContents}
 use Rattle.xt_image.specs.declared.image.Image.{Image}
 use Rattle.xt_trace.specs.declared.options.Options.{Options}
@@ -13,6 +13,7 @@ use Rattle.xt_frames.specs.Breaches.{Bounds}
 use Rattle.xt_frames.specs.Judging.{Standing}
 use Rattle.xt_discipline.specs.Verdicts.{opened0, opened1}
 use Rattle.xt_search.specs.declared.graph.Graph.{Graph}
+use Rattle.xt_search.specs.declared.graph.Kept.{Kept}
 use Rattle.xt_search.specs.Graphs.{IsAt}
 use Rattle.xt_search.specs.Meetings.{run}
 use Rattle.xt_outcomes.specs.KeptWorlds.{moved_spot, spot_of}
@@ -118,6 +119,13 @@ pub record IsFirst (image : Image) (o : Options) (timed : Bool) (w : kept.Scene)
   pub judged0 : bounds0 w ≡ (opened0 image o).bounds
   pub judged1 : bounds1 w ≡ (opened1 o).bounds
 
--- no kept scene has a breach
-abbrev pub ShowsNone : Graph kept.Scene → Type 0
-ShowsNone g = (k : ℕ) (w : kept.Scene) → IsAt g.kept.items k w → w.breach ≡ None
+-- ---- kept worlds of any kind
+
+-- no kept world shows a breach
+abbrev pub ShowsNone : {W : Type 0} → (W → Option shown.Shown) → Graph W → Type 0
+ShowsNone {W} shows g = (k : ℕ) (w : W) → IsAt g.kept.items k w → shows w ≡ None
+
+-- each kept world but the first one comes from an earlier one, by turns of core 0 or 1
+abbrev pub IsTree : {W : Type 0} → Graph W → Type 0
+IsTree {W} g =
+    (k : ℕ) (x : Kept W) → slice_get g.kept.items (suc k) ≡ Some x → (x.from ≤ k) × (x.core < 2)

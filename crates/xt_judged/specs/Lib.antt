@@ -5,13 +5,15 @@ pub mod Kept
 pub mod Seen
 pub mod Searched
 pub mod Once
-pub mod Found
 pub mod OrderFrames
 pub mod Runs
 pub mod Alone
 pub mod Timeless
 pub mod Scenes
 pub mod Orders
+pub mod OwnJudges
+pub mod WatchedKept
+pub mod WatchedSearch
 pub mod Laws
 pub mod OrderText
 pub mod RaceLines

@@ -2,11 +2,13 @@
 --
 -- Profile: the run of an order here has as many turns of each core as the order names, so it ends
 -- with the order. It is the run of `run --order` with these numbers as `--turns0` and `--turns1`.
-use Rattle.std.specs.Prelude.{◌≡◌, ℕ, suc, ◌<◌, ◌≤◌, ◌==◌, Bool, true, false, Some, List, []}
+use Rattle.std.specs.Prelude.{◌≡◌, ℕ, suc, ◌<◌, ◌≤◌, ◌==◌, Bool, true, false, Option, Some, None, List, []}
 use Rattle.std.specs.Prelude.{◌∷◌, if◌then◌else◌, All, length, option_map, slice_get}
 use Rattle.xt_image.specs.declared.image.Image.{Image}
 use Rattle.xt_trace.specs.declared.options.Options.{Options}
+use Rattle.xt_trace.specs.declared.record.StepRecord.{StepRecord}
 use Rattle.xt_trace.specs.declared.run.Run.{Run}
+use Rattle.xt_trace.specs.Validity.{most_turns}
 use Rattle.xt_core.specs.Runs.{records_of}
 use Rattle.xt_machine.specs.Lists.{run_of_list}
 use Rattle.xt_search.specs.Worlds.{IsOrder}
@@ -27,10 +29,10 @@ abbrev pub run_of_order : Image → Options → List ℕ → Run
 run_of_order image o order =
     run_of_list image (record o { turns0 = turns_in 0 order; turns1 = turns_in 1 order }) order
 
--- timed, an order has no more turns of a core than the options give
+-- an order has no more turns of a core than the options give, timed, and than a run can have, else
 abbrev pub HasTurnsOf : (timed : Bool) → Options → List ℕ → Type 0
 HasTurnsOf true o order = (turns_in 0 order ≤ o.turns0) × (turns_in 1 order ≤ o.turns1)
-HasTurnsOf false o order = Unit {0}
+HasTurnsOf false o order = (turns_in 0 order ≤ most_turns) × (turns_in 1 order ≤ most_turns)
 
 -- the run of the breach's order has this breach, and the turn that shows it has its address
 pub record IsRealBreach (image : Image) (o : Options) (timed : Bool) (b : OrderBreach)
@@ -44,6 +46,11 @@ pub record IsRealBreach (image : Image) (o : Options) (timed : Bool) (b : OrderB
       option_map (λ r. r.pc)
       (slice_get (records_of b.core image (run_of_order image o b.order.items)).records step)
       ≡ Some b.pc
+
+-- the record has this address
+abbrev pub has_pc : ℕ → Option StepRecord → Bool
+has_pc pc None = false
+has_pc pc (Some r) = r.pc == pc
 
 -- kind, core and address
 abbrev pub place_of : OrderBreach → Shown

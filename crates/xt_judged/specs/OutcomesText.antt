@@ -20,7 +20,6 @@ use Rattle.xt_judged.specs.RaceLines.{turn_lines}
 use Rattle.xt_judged.specs.FrameLines.{frames_lines}
 use Rattle.xt_judged.specs.OrderFrames.{AreFrames}
 use Rattle.xt_judged.specs.declared.frames.Frames.{Frames}
-use Rattle.xt_judged.specs.declared.frames.Frames.TheVariants as judged
 
 -- ---- an outcome
 
@@ -104,13 +103,11 @@ answers_text code addresses a f = concat (
     ∷ end_line a.ended
     ∷ [])
 
--- This is the text of what is said of all orders, where at most so many states are kept; `frames
--- whole` stands there only if every order was looked at.
+-- this is the text of what is said of all orders, where each search keeps at most so many states
 pub record IsAnswersText (image : Image) (o : Options) (timed : Bool) (addresses : List ℕ)
     (most : ℕ) (text : List ℕ) : Type 0 where
   pub answers : Answers
   pub are : AreAnswers image o timed addresses most answers
   pub frames : Frames
   pub are_frames : AreFrames image o timed frames
-  pub known : frames ≡ judged.Whole → is_all answers.ended ≡ true
   pub text_is : text ≡ answers_text (code_of image) addresses answers frames

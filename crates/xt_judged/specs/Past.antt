@@ -4,6 +4,7 @@ use Rattle.std.specs.Prelude.{◌≡◌, ℕ, ◌+◌, ◌<◌, ◌≤◌, ◌^�
 use Rattle.std.specs.Prelude.{None, length}
 use Rattle.xt_map.specs.declared.access.Access.{Access}
 use Rattle.xt_frames.specs.Breaches.{stores_at}
+use Rattle.xt_frames.specs.Stacks.{Stack}
 use Rattle.xt_frames.specs.Walked.{Walked}
 use Rattle.xt_discipline.specs.declared.side.Areas.{Areas}
 use Rattle.xt_discipline.specs.Sides.{IsCallOf, in_areas}
@@ -27,3 +28,7 @@ HasRoom (Some x) = (x.low + 16 ≤ 2 ^ 32) × (0 < x.size → x.high + x.size �
 pub record IsBefore (b : Before) (w : Walked) : Type 0 where
   pub depth : b.depth ≡ length w.state.frames
   pub call : IsCallOf b.call w.bounds.range.hi w.state
+
+-- its stack pointers are a chain in its stack range
+abbrev pub IsOnStack : Walked → Type 0
+IsOnStack w = Stack w.bounds.range.lo w.bounds.range.hi w.state.seen w.state.frames

@@ -12,8 +12,7 @@ use Rattle.xt_frames.specs.declared.kinds.Judged.{Judged}
 use Rattle.xt_frames.specs.FirstBreach.{Course, IsFirstBreach, by_core, turns}
 use Rattle.xt_frames.specs.Verdict.{verdict, verdict_on}
 use Rattle.xt_discipline.specs.Schedules.{schedule_in}
-use Rattle.xt_discipline.specs.Verdicts.{are_yes, opened0, opened1}
-use Rattle.xt_report.specs.Framed.{judgement_of}
+use Rattle.xt_discipline.specs.Verdicts.{are_yes, judgement_in, opened0, opened1}
 
 -- the six window handlers pass the check
 abbrev pub are_checked : Image → Options → Bool
@@ -21,7 +20,9 @@ are_checked image o = are_yes (handlers_of (code_of image) o.vecbase)
 
 -- what `run` says of a run
 abbrev pub judged_of : Image → Run → Judged
-judged_of image r = verdict (are_checked image r.options) (judgement_of image r)
+judged_of image r =
+    verdict (are_checked image r.options)
+    (judgement_in image r (records_of 0 image r).records (records_of 1 image r).records)
 
 -- the turns of a run in the order of its schedule, with how both cores open
 abbrev pub course_of : Image → Run → Course

@@ -1,15 +1,14 @@
 -- Carries a proof; nothing that a reader must believe.
 -- A search over the scenes of an image.
-use Rattle.std.specs.Prelude.{◌≡◌, ℕ, Bool, List}
+use Rattle.std.specs.Prelude.{◌≡◌, Bool}
 use Rattle.xt_image.specs.declared.image.Image.{Image}
 use Rattle.xt_trace.specs.declared.options.Options.{Options}
 use Rattle.xt_fetch.specs.Code.{AreBytes}
 use Rattle.xt_core.specs.Runs.{code_of, memory_of}
-use Rattle.xt_search.specs.Graphs.{IsAt, IsGraph, OpensWith}
-use Rattle.xt_judged.specs.Orders.{scene_after}
-use Rattle.xt_judged.specs.declared.answer.Search.{Search}
+use Rattle.xt_search.specs.Graphs.{IsGraph, OpensWith}
+use Rattle.xt_judged.specs.declared.joint.Search.{Search}
 use Rattle.xt_judged.specs.declared.scene.Scene.{Scene}
-use Rattle.xt_judged.specs.Kept.{IsFirst, Leads, scene_of}
+use Rattle.xt_judged.specs.Kept.{IsFirst, Leads}
 
 -- a search of this image and these options
 pub record IsSearch (image : Image) (o : Options) (timed : Bool) (s : Search) : Type 0 where
@@ -19,9 +18,3 @@ pub record IsSearch (image : Image) (o : Options) (timed : Bool) (s : Search) : 
   pub is_timed : s.machine.timed.timed ≡ timed
   pub graph : IsGraph (Leads (code_of image) timed s.machine.most_alone (memory_of image o)) s.graph
   pub first : (w : Scene) × OpensWith s.graph w × IsFirst image o timed w
-
--- the order leads to the kept scene with this number
-abbrev pub IsFoundBy : Image → Options → (timed : Bool) → Search → List ℕ → ℕ → Type 0
-IsFoundBy image o timed s order k =
-    (w : Scene) → IsAt s.graph.kept.items k w
-    → scene_after image o timed order ≡ scene_of (memory_of image o) w

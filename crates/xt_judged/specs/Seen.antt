@@ -1,20 +1,19 @@
 -- Carries a proof; nothing that a reader must believe.
 -- What the program's judge answers of one record, in the words of the definition.
-use Rattle.std.specs.Prelude.{◌≡◌, ℕ, Bool, true, false, Result, Ok, Err, List, length}
+use Rattle.std.specs.Prelude.{◌≡◌, ℕ, Bool, true, false, Option, Result, Ok, Err, List, length}
 use Rattle.xt_trace.specs.declared.record.StepRecord.{StepRecord}
 use Rattle.xt_frames.specs.declared.kinds.Breach.{Breach}
 use Rattle.xt_frames.specs.declared.kinds.BreachKind.{BreachKind}
 use Rattle.xt_frames.specs.Breaches.{stale_after}
 use Rattle.xt_frames.specs.declared.kinds.HandlerPhase.{HandlerPhase}
 use Rattle.xt_frames.specs.Judging.{Standing, Seen, Handled, Judges, Breaks, seen_record}
-use Rattle.xt_frames.specs.SaveAreas.{is_live}
 use Rattle.xt_frames.specs.Stacks.{Moves}
 use Rattle.xt_frames.specs.Walked.{Walked}
 use Rattle.xt_judged.specs.declared.record.Known.{Known}
 use Rattle.xt_judged.specs.declared.scene.Standing as kept
 use Rattle.xt_judged.specs.declared.seeing.Passed.{Passed}
 use Rattle.xt_judged.specs.Kept.{standing_of}
-use Rattle.xt_judged.specs.Lives.{AreApart, is_live_in}
+use Rattle.xt_judged.specs.Lives.{AreApart, is_live_in, others_live}
 use Rattle.xt_judged.specs.Stales.{among, renewed}
 
 -- what is known of a core with these frames in this phase
@@ -23,14 +22,14 @@ standing_at w p = record { frame = w.state; fresh = w.fresh; phase = p }
 
 -- what the definition sees in a record, beside the other core and these stale bytes
 abbrev pub seen_by :
-    (ℕ → ℕ) → Walked → HandlerPhase → Walked → (ℕ → Bool) → StepRecord → Seen
+    (ℕ → ℕ) → Walked → HandlerPhase → Option Walked → (ℕ → Bool) → StepRecord → Seen
 seen_by code own p other stale rec =
-    seen_record code own.bounds (standing_at own p) (is_live other.bounds.range other.state) stale
-    rec
+    seen_record code own.bounds (standing_at own p) (others_live other) stale rec
 
 -- the answer is what the definition sees, and the frames `new` are those after the record
 abbrev pub IsSeenAs :
-    Walked → Walked → Walked → (ℕ → Bool) → StepRecord → Seen → Result Passed Breach → Type 0
+    Walked → Walked → Option Walked → (ℕ → Bool) → StepRecord → Seen → Result Passed Breach
+    → Type 0
 IsSeenAs old new other stale rec (Handled st) (Ok p) =
     (p.judged ≡ false) × (new ≡ old)
     × (st ≡ record { frame = old.state; fresh = false; phase = p.phase })
@@ -54,7 +53,7 @@ IsKnownPast own stale (Breaks kind) (Err k) = k ≡ kind
 IsKnownPast own stale _ _ = ⊥
 
 -- then still no stale byte lies in a live save area
-abbrev pub IsApartPast : kept.Standing → List ℕ → Result Known BreachKind → Type 0
+abbrev pub IsApartPast : Option Walked → List ℕ → Result Known BreachKind → Type 0
 IsApartPast other stale (Ok k) =
-    AreApart k.standing.frames other.frames (renewed stale k.stale)
+    AreApart k.standing.frames other (renewed stale k.stale)
 IsApartPast other stale (Err kind) = Unit {0}

@@ -1,6 +1,8 @@
 -- Carries a proof; nothing that a reader must believe.
 -- Lists of bytes, and which bytes stand in them.
 use Rattle.std.specs.Prelude.{ℕ, Bool, false, ◌==◌, ◌||◌, Option, Some, None, List, [], ◌∷◌}
+use Rattle.xt_map.specs.declared.access.Access.{Access}
+use Rattle.xt_frames.specs.Breaches.{stores_at}
 
 abbrev pub among : List ℕ → ℕ → Bool
 among [] a = false
@@ -10,3 +12,8 @@ among (b ∷ bs) a = b == a || among bs a
 abbrev pub renewed : List ℕ → Option (List ℕ) → List ℕ
 renewed old None = old
 renewed old (Some new) = new
+
+-- a store writes one of the bytes
+abbrev pub some_stored : List ℕ → Option Access → Bool
+some_stored [] access = false
+some_stored (b ∷ bs) access = stores_at access b || some_stored bs access

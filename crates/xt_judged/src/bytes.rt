@@ -1,5 +1,5 @@
 //! Which bytes an access touches: live ones and stale ones.
-ghost use Rattle.std.specs.Prelude.{◌≡◌, ◌+◌, ◌<◌, ◌^◌};
+ghost use Rattle.std.specs.Prelude.{◌≡◌, ◌+◌, ◌<◌, ◌^◌, option_copied};
 ghost use Rattle.xt_map.specs.Touching.{is_store};
 ghost use Rattle.xt_frames.specs.Breaches.{loads_stale, some_byte, stores_at, touches_save_area};
 ghost use Rattle.xt_discipline.specs.Sides.{in_areas};
@@ -13,17 +13,23 @@ use xt_discipline::Areas;
 use xt_frames::Frames;
 use xt_map::{Access, Kind};
 
-/// Whether a byte lies in a live save area of either core.
-pub fn is_live_in(own: &Frames, other: &Frames, addr: u64) -> bool
-    ensures { result ≡ is_live_in own.now other.now addr }
+/// Whether a byte lies in a live save area of either core, or of one, if the other is not looked at.
+pub fn is_live_in(own: &Frames, other: Option<&Frames>, addr: u64) -> bool
+    ensures { result ≡ is_live_in own.now (option_copied other.entry) addr }
 {
-    is_live(own, addr) || is_live(other, addr)
+    if is_live(own, addr) {
+        return true;
+    }
+    match other {
+        Some(other) => is_live(other, addr),
+        None => false,
+    }
 }
 
 // Whether one of these bytes is live.
-fn some_live(own: &Frames, other: &Frames, addr: u64, size: u64) -> bool
+fn some_live(own: &Frames, other: Option<&Frames>, addr: u64, size: u64) -> bool
     requires { addr + size < 2 ^ 64 }
-    ensures { result ≡ some_byte (is_live_in own.now other.now) addr size }
+    ensures { result ≡ some_byte (is_live_in own.now (option_copied other.entry)) addr size }
 {
     for k in 0..size {
         if is_live_in(own, other, addr + k) {
@@ -47,8 +53,8 @@ fn some_stale(stale: &Stale, addr: u64, size: u64) -> bool
 }
 
 /// Whether a store or S32C1I touches a live save area of either core.
-pub fn saves(own: &Frames, other: &Frames, access: Option<Access>) -> bool
-    ensures { result ≡ touches_save_area (is_live_in own.now other.now) access }
+pub fn saves(own: &Frames, other: Option<&Frames>, access: Option<Access>) -> bool
+    ensures { touches_save_area (is_live_in own.now (option_copied other.entry)) access ≡ result }
 {
     match access {
         Some(access) => match access.kind {
@@ -60,8 +66,8 @@ pub fn saves(own: &Frames, other: &Frames, access: Option<Access>) -> bool
 }
 
 /// Whether a load or S32C1I touches a stale byte, or a load a live save area of either core.
-pub fn loads(own: &Frames, other: &Frames, stale: &Stale, access: Option<Access>) -> bool
-    ensures { result ≡ loads_stale (is_live_in own.now other.now) (among stale.now) access }
+pub fn loads(own: &Frames, other: Option<&Frames>, stale: &Stale, access: Option<Access>) -> bool
+    ensures { loads_stale (is_live_in own.now (option_copied other.entry)) (among stale.now) access ≡ result }
 {
     match access {
         Some(access) => match access.kind {

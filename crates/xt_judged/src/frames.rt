@@ -1,16 +1,21 @@
-//! What is judged of the runs of all orders, in the words of the runs.
-ghost use Rattle.std.specs.Prelude.{◌≡◌, All, IfOk};
+//! What is judged of the runs of an image in all orders.
+ghost use Rattle.std.specs.Prelude.{◌≡◌, true, IfOk};
 ghost use Rattle.xt_trace.specs.Validity.{IsValid};
 ghost use Rattle.xt_image.specs.ImageParts.{IsWellFormed};
-ghost use Rattle.xt_judged.specs.Found.{IsSeenAfter, shown_of};
-ghost use Rattle.xt_judged.specs.Once.{HaveOwn};
-ghost use Rattle.xt_judged.specs.OrderFrames.{AreFrames, IsRealBreach, place_of};
+ghost use Rattle.xt_judged.specs.Kept.{IsTree};
+ghost use Rattle.xt_judged.specs.OrderFrames.{AreFrames, place_of};
+ghost use Rattle.xt_judged.specs.Runs.{are_checked};
 
-use crate::answer::{Answer, FoundBreach, frames_of};
-use crate::confirming::is_real;
+use crate::apart::{self, search_watched};
+use crate::breaches::{Met, breaches_of};
+use crate::joint::{self, search_scenes};
+use crate::judging::Desk;
+use crate::scene::Shown;
 use std::alloc::{AllocError, Global};
+use xt_discipline::{are_yes, handlers_of};
 use xt_frames::BreachKind;
 use xt_image::{Image, well_formed_is_placed};
+use xt_search::Graph;
 use xt_trace::Options;
 
 /// A breach of the stack discipline: its kind, the core and the address of the turn that shows it, and an
@@ -22,6 +27,19 @@ pub struct OrderBreach {
     pub pc: u32,
     /// The cores that make the turns, one by one.
     pub order: Vec<u8>,
+}
+
+impl OrderBreach {
+    /// Its kind, core and address.
+    pub fn place(&self) -> Shown
+        ensures { result ≡ place_of self.now }
+    {
+        Shown {
+            core: self.core,
+            pc: self.pc,
+            kind: self.kind,
+        }
+    }
 }
 
 /// What is judged of the runs of all orders by the discipline of the stack.
@@ -37,50 +55,76 @@ pub enum Frames {
     Broken(Vec<OrderBreach>),
 }
 
-// The breach and its order. The only error is running out of memory.
-fn breach_of(alloc: Global, found: &FoundBreach) -> Result<OrderBreach, AllocError>
-    ensures order { IfOk result (λ b. b.order.items ≡ found.now.order.items) }
-    ensures place { IfOk result (λ b. place_of b ≡ found.now.shown) }
-{
-    let mut order = Vec::new(alloc);
-    order.extend_from_slice(found.order.as_slice())?;
-    Ok(OrderBreach {
-        kind: found.shown.kind,
-        core: found.shown.core,
-        pc: found.shown.pc,
-        order,
-    })
-}
-
-// Those of the breaches that the runs of their orders have as their verdicts. The only error is running
-// out of memory.
-fn real_ones(
+// What is judged by the breaches that a search met. The only error is running out of memory.
+fn found_in<W: Met + Drop>(
     alloc: Global,
     image: &Image,
     options: &Options,
     timed: bool,
-    list: &[FoundBreach],
-) -> Result<Vec<OrderBreach>, AllocError>
+    graph: &Graph<W>,
+) -> Result<Frames, AllocError>
     requires image { IsWellFormed image.now }
     requires valid { IsValid options.now }
-    requires seen { All (IsSeenAfter image.now options.now timed) list.now }
-    requires once { HaveOwn shown_of list.now }
-    ensures real { IfOk result (λ v. All (IsRealBreach image.now options.now timed) v.items) }
-    ensures once { IfOk result (λ v. HaveOwn place_of v.items) }
+    requires checked { are_checked image.now options.now ≡ true }
+    requires tree { IsTree graph.now }
+    ensures { IfOk result (AreFrames image.now options.now timed) }
 {
-    let mut real = Vec::new(alloc);
-    for number in 0..list.len() {
-        let breach = breach_of(alloc, &list[number])?;
-        if is_real(alloc, image, options, timed, &breach)? {
-            real.push(breach)?;
-        }
+    let list = breaches_of(alloc, image, options, timed, graph)?;
+    if list.is_empty() {
+        return Ok(Frames::Unknown);
     }
-    Ok(real)
+    Ok(Frames::Broken(list))
 }
 
-/// What is judged of the runs of an image in all orders, where at most so many scenes are kept: timed,
-/// with the turns that the options give, or with any number of turns. The only error is running out of
-/// memory.
+// What is judged by a search in which each core has a judge of its own. The only error is running out of
+// memory.
+fn judge_apart(
+    alloc: Global,
+    image: &Image,
+    options: &Options,
+    timed: bool,
+    desk: &mut Desk,
+    most: u32,
+) -> Result<Frames, AllocError>
+    requires image { IsWellFormed image.now }
+    requires valid { IsValid options.now }
+    requires checked { are_checked image.now options.now ≡ true }
+    ensures { IfOk result (AreFrames image.now options.now timed) }
+{
+    well_formed_is_placed();
+    let search = search_watched(alloc, image, options, timed, desk, most)?;
+    if apart::is_whole(image, options, timed, &search) {
+        return Ok(Frames::Whole);
+    }
+    found_in(alloc, image, options, timed, &search.graph)
+}
+
+// What is judged by a search in which the judge looks at both cores. The only error is running out of
+// memory.
+fn judge_both(
+    alloc: Global,
+    image: &Image,
+    options: &Options,
+    timed: bool,
+    desk: &mut Desk,
+    most: u32,
+) -> Result<Frames, AllocError>
+    requires image { IsWellFormed image.now }
+    requires valid { IsValid options.now }
+    requires checked { are_checked image.now options.now ≡ true }
+    ensures { IfOk result (AreFrames image.now options.now timed) }
+{
+    well_formed_is_placed();
+    let search = search_scenes(alloc, image, options, timed, desk, most)?;
+    if joint::is_whole(image, options, timed, &search) {
+        return Ok(Frames::Whole);
+    }
+    found_in(alloc, image, options, timed, &search.graph)
+}
+
+/// What is judged of the runs of an image in all orders, where each search keeps at most so many states:
+/// timed, with the turns that the options give, or with any number of turns. The only error is running out
+/// of memory.
 ///
 /// Conditions: the image is well formed, and the options are valid.
 pub fn judge_orders(
@@ -95,16 +139,13 @@ pub fn judge_orders(
     ensures { IfOk result (AreFrames image.now options.now timed) }
 {
     well_formed_is_placed();
-    match frames_of(alloc, image, options, timed, most)? {
-        Answer::Unchecked => Ok(Frames::Unchecked),
-        Answer::Whole => Ok(Frames::Whole),
-        Answer::Unknown => Ok(Frames::Unknown),
-        Answer::Candidates(list) => {
-            let real = real_ones(alloc, image, options, timed, list.as_slice())?;
-            if real.is_empty() {
-                return Ok(Frames::Unknown);
-            }
-            Ok(Frames::Broken(real))
-        }
+    let handlers = handlers_of(alloc, image, options.vecbase)?;
+    if !are_yes(&handlers) {
+        return Ok(Frames::Unchecked);
+    }
+    let mut desk = Desk::make(alloc)?;
+    match judge_apart(alloc, image, options, timed, &mut desk, most)? {
+        Frames::Unknown => judge_both(alloc, image, options, timed, &mut desk, most),
+        frames => Ok(frames),
     }
 }

@@ -1,5 +1,5 @@
 //! The stale bytes after a judged step.
-ghost use Rattle.std.specs.Prelude.{◌≡◌, ◌+◌, ◌<◌, ◌≤◌, ◌^◌, ◌==◌, ℕ, not, ◌&&◌, ◌||◌, Some, IfOk, OnOk};
+ghost use Rattle.std.specs.Prelude.{◌≡◌, ◌+◌, ◌<◌, ◌≤◌, ◌^◌, ◌==◌, ℕ, not, ◌&&◌, ◌||◌, Some, IfOk, OnOk, option_copied};
 ghost use Rattle.xt_map.specs.Touching.{touches};
 ghost use Rattle.xt_frames.specs.Breaches.{stale_after, stores_at};
 ghost use Rattle.xt_frames.specs.Stacks.{Moves};
@@ -13,7 +13,7 @@ use crate::bytes::is_live_in;
 use crate::stale::Stale;
 use std::alloc::{AllocError, Global};
 use xt_discipline::{Areas, areas, newest};
-use xt_frames::{Frames, Snapshot};
+use xt_frames::Frames;
 use xt_map::Access;
 
 /// What is kept of a core's frames before a step.
@@ -38,8 +38,13 @@ pub fn kept_before(frames: &Frames) -> Before
 }
 
 // Adds a byte that is not live for either core. The only error is running out of memory.
-fn add_one(stale: &mut Stale, own: &Frames, other: &Frames, addr: u32) -> Result<(), AllocError>
-    ensures { OnOk result ((a : ℕ) → among stale.new a ≡ ((addr == a && not (is_live_in own.now other.now addr)) || among stale.old a)) }
+fn add_one(
+    stale: &mut Stale,
+    own: &Frames,
+    other: Option<&Frames>,
+    addr: u32,
+) -> Result<(), AllocError>
+    ensures { OnOk result ((a : ℕ) → among stale.new a ≡ ((addr == a && not (is_live_in own.now (option_copied other.entry) addr)) || among stale.old a)) }
 {
     if is_live_in(own, other, u64::from(addr)) {
         return Ok(());
@@ -52,12 +57,12 @@ fn add_one(stale: &mut Stale, own: &Frames, other: &Frames, addr: u32) -> Result
 fn add_gone(
     stale: &mut Stale,
     own: &Frames,
-    other: &Frames,
+    other: Option<&Frames>,
     from: u32,
     size: u32,
 ) -> Result<(), AllocError>
     requires { 0 < size → from + size ≤ 2 ^ 32 }
-    ensures { OnOk result ((a : ℕ) → among stale.new a ≡ (among stale.old a || (touches from size a && not (is_live_in own.now other.now a)))) }
+    ensures { OnOk result ((a : ℕ) → among stale.new a ≡ (among stale.old a || (touches from size a && not (is_live_in own.now (option_copied other.entry) a)))) }
 {
     for k in 0..size {
         add_one(stale, own, other, from + k)?;
@@ -70,17 +75,16 @@ fn past_return(
     alloc: Global,
     call: Areas,
     own: &Frames,
-    other: &Snapshot,
+    other: Option<&Frames>,
     stale: &Stale,
     access: Option<Access>,
 ) -> Result<Stale, AllocError>
     requires { HasRoom (Some call) }
-    ensures { IfOk result (λ s. (a : ℕ) → among s a ≡ ((among stale.now a && not (stores_at access a)) || (in_areas call a && not (is_live_in own.now other.now a)))) }
+    ensures { IfOk result (λ s. (a : ℕ) → among s a ≡ ((among stale.now a && not (stores_at access a)) || (in_areas call a && not (is_live_in own.now (option_copied other.entry) a)))) }
 {
     let mut after = stale.spared(alloc, access, None)?;
-    let others = other.frames(alloc)?;
-    add_gone(&mut after, own, &others, call.low, 16)?;
-    add_gone(&mut after, own, &others, call.high, call.size)?;
+    add_gone(&mut after, own, other, call.low, 16)?;
+    add_gone(&mut after, own, other, call.high, call.size)?;
     Ok(after)
 }
 
@@ -105,13 +109,13 @@ pub fn stale_past(
     alloc: Global,
     before: Before,
     own: &Frames,
-    other: &Snapshot,
+    other: Option<&Frames>,
     stale: &Stale,
     access: Option<Access>,
 ) -> Result<Option<Stale>, AllocError>
     requires { HasRoom before.call }
-    ensures { IfOk result (λ s. (w : Walked) → IsBefore before w → own.now.bounds ≡ w.bounds → Moves w.state own.now.state → AreApart w other.now stale.now
-        → (a : ℕ) → among (renewed stale.now s) a ≡ stale_after (is_live_in own.now other.now) (is_live_in w other.now) (among stale.now) access a) }
+    ensures { IfOk result (λ s. (w : Walked) → IsBefore before w → own.now.bounds ≡ w.bounds → Moves w.state own.now.state → AreApart w (option_copied other.entry) stale.now
+        → (a : ℕ) → among (renewed stale.now s) a ≡ stale_after (is_live_in own.now (option_copied other.entry)) (is_live_in w (option_copied other.entry)) (among stale.now) access a) }
 {
     let depth = own.depth();
     if depth == before.depth {

@@ -1,31 +1,31 @@
 //! The turns of two cores that the judge sees. A core that has made a turn without an access goes on
 //! alone up to its next access: so the turns stand as in the schedule of the run that they make.
-ghost use Rattle.std.specs.Prelude.{◌≡◌, ◌<◌, IfOk};
+ghost use Rattle.std.specs.Prelude.{◌≡◌, ◌<◌, Some, IfOk};
 ghost use Rattle.xt_map.specs.Memory.{constant_byte};
 ghost use Rattle.xt_map.specs.declared.contents.MemoryContents.{MemoryContents};
-ghost use Rattle.xt_exec.specs.Chips.{processor};
-ghost use Rattle.xt_search.specs.Meetings.{after};
 ghost use Rattle.xt_outcomes.specs.KeptWorlds.{spot_of};
-ghost use Rattle.xt_outcomes.specs.Places.{turns_of};
 ghost use Rattle.xt_judged.specs.Alone.{is_other, only_after};
-ghost use Rattle.xt_judged.specs.Scenes.{is_idle, scene_past, seen_at};
+ghost use Rattle.xt_judged.specs.Scenes.{is_idle, seen_at};
 ghost use Rattle.xt_judged.specs.Kept.{IsTurn, bars, bounds0, bounds1, goes_on, moved_scene, other_of, own_of, scene_of, stretch};
 ghost use Rattle.xt_judged.specs.Lives.{AreApart};
 ghost use Rattle.xt_judged.specs.Seen.{IsApartPast, IsKnownPast};
 ghost use Rattle.xt_judged.specs.Stales.{renewed};
+ghost use Rattle.xt_judged.specs.WatchedKept.{watched_of};
+ghost use Rattle.xt_trace.specs.Validity.{IsValid};
 
 use crate::clock::uses_time;
 use crate::moved::is_same_world;
 use crate::record::{Known, see_record};
 use crate::scene::{Scene, Shown, Standing};
 use crate::stale::Stale;
+use crate::watched::{OwnJudge, Watched};
 use std::alloc::{AllocError, Global};
 use std::rc::Rc;
 use xt_changes::Changes;
 use xt_frames::BreachKind;
 use xt_outcomes::{Part, Shelf, Side, Timed, World};
 use xt_search::Machine;
-use xt_trace::StepRecord;
+use xt_trace::{Options, StepRecord};
 
 /// The machine of an image, whose turns the judge sees.
 #[derive(Drop)]
@@ -36,20 +36,21 @@ pub struct Judging<'a> {
     pub alloc: Global,
 }
 
-/// A scene, and how many turns of a core led to it.
+// A scene, and how many turns of a core led to it.
 #[derive(Drop)]
-pub struct Run {
-    pub scene: Scene,
-    pub turns: u32,
+struct Run {
+    scene: Scene,
+    turns: u32,
 }
 
-/// What scenes share.
+/// What the kept states of a search share, and a core that makes turns.
 #[derive(Drop)]
 pub struct Desk {
     sides: Shelf<Side>,
     changes: Shelf<Changes>,
     standings: Shelf<Standing>,
     stales: Shelf<Stale>,
+    judges: Shelf<OwnJudge>,
 }
 
 // The kept part that is equal to this one: itself, if it has another owner. The only error is running out
@@ -69,12 +70,13 @@ fn shelved<T: Part + Drop>(
 
 impl Desk {
     /// Nothing is shared yet. The only error is running out of memory.
-    pub fn new(alloc: Global) -> Result<Desk, AllocError> {
+    pub fn make(alloc: Global) -> Result<Desk, AllocError> {
         Ok(Desk {
             sides: Shelf::new(alloc)?,
             changes: Shelf::new(alloc)?,
             standings: Shelf::new(alloc)?,
             stales: Shelf::new(alloc)?,
+            judges: Shelf::new(alloc)?,
         })
     }
 
@@ -89,8 +91,9 @@ impl Desk {
         })
     }
 
-    // The same scene, of parts that are kept. The only error is running out of memory.
-    fn scene(&mut self, alloc: Global, scene: Scene) -> Result<Scene, AllocError>
+    // The same scene, of parts that are kept, to which so many turns led. The only error is running out of
+    // memory.
+    fn scene(&mut self, alloc: Global, scene: Scene, turns: u32) -> Result<Scene, AllocError>
         ensures scene { IfOk result (λ s. (m : MemoryContents) → scene_of m s ≡ scene_of m scene) }
         ensures same0 { IfOk result (λ s. bounds0 s ≡ bounds0 scene) }
         ensures same1 { IfOk result (λ s. bounds1 s ≡ bounds1 scene) }
@@ -102,6 +105,26 @@ impl Desk {
             stale: shelved(&mut self.stales, alloc, scene.stale)?,
             only: scene.only,
             breach: scene.breach,
+            turns,
+        })
+    }
+}
+
+impl Desk {
+    /// The same, of parts that are kept, to which so many turns led. The only error is running out of memory.
+    pub fn watched(
+        &mut self,
+        alloc: Global,
+        watched: Watched,
+        turns: u32,
+    ) -> Result<Watched, AllocError>
+        ensures { IfOk result (λ w. (m : MemoryContents) → watched_of m w ≡ watched_of m watched) }
+    {
+        Ok(Watched {
+            world: self.world(alloc, watched.world)?,
+            judge0: shelved(&mut self.judges, alloc, watched.judge0)?,
+            judge1: shelved(&mut self.judges, alloc, watched.judge1)?,
+            turns,
         })
     }
 }
@@ -165,15 +188,15 @@ impl<'a> Judging<'a> {
         rec: &StepRecord,
     ) -> Result<Result<Known, BreachKind>, AllocError>
         ensures known { (m : MemoryContents) → IfOk result (IsKnownPast (own_of core scene.now) scene.now.stale.value (seen_at (constant_byte self.now.timed.code) (bounds0 scene.now) (bounds1 scene.now) core (scene_of m scene.now) rec.now)) }
-        ensures apart { IfOk result (IsApartPast (other_of core scene.now) scene.now.stale.value) }
+        ensures apart { IfOk result (IsApartPast (Some (other_of core scene.now).frames) scene.now.stale.value) }
     {
         let own = scene.own(core);
-        let other = scene.other(core);
+        let other = scene.other(core).frames.frames(self.alloc)?;
         see_record(
             self.alloc,
             &self.timed.code,
             own,
-            other,
+            Some(&other),
             scene.stale.as_ref(),
             rec,
         )
@@ -190,7 +213,7 @@ impl<'a> Judging<'a> {
         known: Known,
         rec: &StepRecord,
     ) -> Result<Scene, AllocError>
-        requires apart { AreApart known.standing.frames (other_of core scene.now).frames (renewed scene.now.stale.value known.stale) }
+        requires apart { AreApart known.standing.frames (Some (other_of core scene.now).frames) (renewed scene.now.stale.value known.stale) }
         requires same { known.standing.frames.bounds ≡ (own_of core scene.now).frames.bounds }
         ensures scene { IfOk result (λ s. (m : MemoryContents) → scene_of m s ≡ moved_scene m core scene.now side changes known.standing (renewed scene.now.stale.value known.stale) (only_after core rec.now.access)) }
         ensures same0 { IfOk result (λ s. bounds0 s ≡ bounds0 scene.now) }
@@ -259,13 +282,12 @@ impl<'a> Judging<'a> {
         !self.bars(scene, core)
     }
 
-    /// A turn of a core, and then those that it makes alone. The only error is running out of memory.
-    ///
-    /// Condition: the core is 0 or 1.
-    pub fn run(&self, scene: &Scene, core: u8) -> Result<Run, AllocError>
+    // A turn of a core, and then those that it makes alone. The only error is running out of memory.
+    //
+    // Condition: the core is 0 or 1.
+    fn run(&self, scene: &Scene, core: u8) -> Result<Run, AllocError>
         requires { core < 2 }
         ensures stretch { let t = self.now.timed in IfOk result (λ r. scene_of t.opening.contents r.scene ≡ stretch (constant_byte t.code) (bounds0 scene.now) (bounds1 scene.now) t.timed self.now.most_alone core (scene_of t.opening.contents scene.now)) }
-        ensures turns { let t = self.now.timed in IfOk result (λ r. scene_of t.opening.contents r.scene ≡ after (scene_past (processor (constant_byte t.code)) (constant_byte t.code) (bounds0 scene.now) (bounds1 scene.now) t.timed) (turns_of core r.turns) (scene_of t.opening.contents scene.now)) }
         ensures same0 { IfOk result (λ r. bounds0 r.scene ≡ bounds0 scene.now) }
         ensures same1 { IfOk result (λ r. bounds1 r.scene ≡ bounds1 scene.now) }
     {
@@ -302,13 +324,18 @@ impl<'a> Machine for Judging<'a> {
 
     ghost ends = { λ _ w. (w.world.side0.value.left == 0) && (w.world.side1.value.left == 0) };
 
-    fn is_barred(&self, scene: &Scene, core: u8) -> bool {
-        self.bars(scene, core)
-    }
-
-    fn turned(&self, desk: &mut Desk, scene: &Scene, core: u8) -> Result<Scene, AllocError> {
+    fn turned(
+        &self,
+        desk: &mut Desk,
+        scene: &Scene,
+        core: u8,
+    ) -> Result<Option<Scene>, AllocError> {
+        if self.bars(scene, core) {
+            return Ok(None);
+        }
         let run = self.run(scene, core)?;
-        desk.scene(self.alloc, run.scene)
+        let scene = desk.scene(self.alloc, run.scene, run.turns)?;
+        Ok(Some(scene))
     }
 
     fn is_same(&self, a: &Scene, b: &Scene) -> bool {

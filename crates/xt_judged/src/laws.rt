@@ -1,21 +1,8 @@
 //! Laws of every order as the judge sees it, and of what is printed of all orders. Each is the contract of a
 //! function that does nothing.
-ghost use Rattle.xt_judged.specs.Laws.{AllAreWholeWhereNoSceneBreaks, NoneBreaksWhereNoSceneDoes, NoneBreaksWithoutTime};
+ghost use Rattle.xt_judged.specs.Laws.{AllAreWholeWhereNoSceneBreaks};
 ghost use Rattle.xt_judged.specs.OrderText.{RowsMakeTheOrder};
 ghost use Rattle.xt_judged.specs.RaceLines.{PrintsAsTrace};
-
-/// If no scene that turns lead to shows a breach, no run of the opening shows one.
-#[tactic(auto, using(crate::proofs::Whole::none_breaks))]
-pub fn none_breaks_where_no_scene_does()
-    ensures { NoneBreaksWhereNoSceneDoes }
-{}
-
-/// If no scene that turns lead to shows a breach or comes to a turn that uses time, no run of the opening shows one,
-/// with any number of turns.
-#[tactic(auto, using(crate::proofs::Whole::none_breaks_untimed))]
-pub fn none_breaks_without_time()
-    ensures { NoneBreaksWithoutTime }
-{}
 
 /// If no scene that an image's turns lead to shows a breach, and where it is not timed none comes to a turn that
 /// uses time, the verdict of every run of the image is whole.

@@ -2,13 +2,15 @@
 //! everything that can come out of it.
 #![tactic(auto)]
 
-mod answer;
+mod apart;
+mod breaches;
 mod bytes;
 mod clock;
 mod confirming;
 mod frame_lines;
 mod frames;
 mod gone;
+mod joint;
 mod judging;
 pub mod laws;
 mod live;
@@ -16,11 +18,14 @@ mod moved;
 mod opening;
 mod order_rows;
 mod outcome_lines;
+mod own_judges;
 mod race_lines;
 mod record;
 mod scene;
 mod seeing;
 mod stale;
 mod texts;
+mod watched;
+mod watching;
 
 pub use texts::outcomes_text;

@@ -1,5 +1,5 @@
 //! Scenes past a turn.
-ghost use Rattle.std.specs.Prelude.{◌≡◌, true, IfOk, option_map};
+ghost use Rattle.std.specs.Prelude.{◌≡◌, Some, true, IfOk, option_map};
 ghost use Rattle.xt_map.specs.declared.contents.MemoryContents.{MemoryContents};
 ghost use Rattle.xt_outcomes.specs.KeptWorlds.{spot_of};
 ghost use Rattle.xt_outcomes.specs.Spots.{side_of};
@@ -13,8 +13,8 @@ use std::rc::Rc;
 use xt_changes::Changes;
 use xt_outcomes::{Side, World};
 
-// The same world. The only error is that a part of it has too many owners.
-fn same_world(world: &World) -> Result<World, AllocError>
+/// The same world. The only error is that a part of it has too many owners.
+pub(crate) fn same_world(world: &World) -> Result<World, AllocError>
     ensures { IfOk result (λ w. (m : MemoryContents) → spot_of m w ≡ spot_of m world.now) }
 {
     Ok(World {
@@ -80,6 +80,7 @@ impl Scene {
             stale: self.stale.clone()?,
             only: self.only,
             breach,
+            turns: self.turns,
         })
     }
 
@@ -97,7 +98,7 @@ impl Scene {
         stale: Rc<Stale>,
         only: Option<u8>,
     ) -> Result<Scene, AllocError>
-        requires apart { AreApart standing.value.frames (other_of core self.now).frames stale.value }
+        requires apart { AreApart standing.value.frames (Some (other_of core self.now).frames) stale.value }
         requires same { standing.value.frames.bounds ≡ (own_of core self.now).frames.bounds }
         ensures scene { IfOk result (λ s. (m : MemoryContents) → scene_of m s ≡ moved_scene m core self.now side.value changes.value standing.value stale.value only) }
         ensures same0 { IfOk result (λ s. bounds0 s ≡ bounds0 self.now) }
@@ -115,6 +116,7 @@ impl Scene {
                 stale,
                 only,
                 breach: None,
+                turns: self.turns,
             })
         } else {
             Ok(Scene {
@@ -128,6 +130,7 @@ impl Scene {
                 stale,
                 only,
                 breach: None,
+                turns: self.turns,
             })
         }
     }

@@ -1,12 +1,18 @@
 //! How the search of what is judged opens.
-ghost use Rattle.std.specs.Prelude.{◌≡◌, ◌<◌, IfOk};
+ghost use Rattle.std.specs.Prelude.{◌≡◌, ◌<◌, None, IfOk};
 ghost use Rattle.xt_trace.specs.Validity.{IsValid};
 ghost use Rattle.xt_frames.specs.Judging.{opening_standing};
 ghost use Rattle.xt_frames.specs.Walked.{opening_walked};
+ghost use Rattle.xt_core.specs.Runs.{memory_of};
 ghost use Rattle.xt_judged.specs.Kept.{IsFirst, standing_of};
+ghost use Rattle.xt_judged.specs.Lives.{AreApart};
+ghost use Rattle.xt_judged.specs.OwnJudges.{opening_judge};
+ghost use Rattle.xt_judged.specs.WatchedKept.{judge_of, watched_of};
+ghost use Rattle.xt_judged.specs.WatchedSearch.{first_watched};
 
 use crate::scene::{Scene, Standing};
 use crate::stale::Stale;
+use crate::watched::{Fate, OwnJudge, Watched};
 use std::alloc::{AllocError, Global};
 use std::rc::Rc;
 use xt_frames::{Frames, HandlerPhase};
@@ -41,7 +47,7 @@ pub fn open(
     requires { IsValid options.now }
     ensures { IfOk result (IsFirst image.now options.now timed) }
 {
-    let mut desk = Desk::make(alloc, options)?;
+    let mut desk = Desk::new(alloc)?;
     let world = xt_outcomes::open(alloc, image, options, &mut desk, timed)?;
     let standing0 = standing(alloc, 0, image.entry, options)?;
     let standing1 = standing(alloc, 1, options.entry1, options)?;
@@ -52,5 +58,44 @@ pub fn open(
         stale: Rc::new(alloc, Stale::none(alloc))?,
         only: None,
         breach: None,
+        turns: 0,
+    })
+}
+
+// The judge of a core that opens at `pc`. The only error is running out of memory.
+fn judge(alloc: Global, core: u8, pc: u32, options: &Options) -> Result<OwnJudge, AllocError>
+    requires core { core < 2 }
+    requires valid { IsValid options.now }
+    ensures judge { IfOk result (λ j. judge_of j ≡ opening_judge (opening_walked core pc options.now)) }
+    ensures apart { IfOk result (λ j. AreApart j.standing.frames None j.stale) }
+{
+    Ok(OwnJudge {
+        standing: standing(alloc, core, pc, options)?,
+        stale: Stale::none(alloc),
+        fate: Fate::Goes,
+    })
+}
+
+/// Both cores as the runs of an image open, each with its judge. The only error is running out of memory.
+///
+/// Condition: the options are valid.
+pub fn open_watched(
+    alloc: Global,
+    image: &Image,
+    options: &Options,
+    timed: bool,
+) -> Result<Watched, AllocError>
+    requires { IsValid options.now }
+    ensures { IfOk result (λ w. watched_of (memory_of image.now options.now) w ≡ first_watched image.now options.now timed) }
+{
+    let mut desk = Desk::new(alloc)?;
+    let world = xt_outcomes::open(alloc, image, options, &mut desk, timed)?;
+    let judge0 = judge(alloc, 0, image.entry, options)?;
+    let judge1 = judge(alloc, 1, options.entry1, options)?;
+    Ok(Watched {
+        world,
+        judge0: Rc::new(alloc, judge0)?,
+        judge1: Rc::new(alloc, judge1)?,
+        turns: 0,
     })
 }

@@ -1,14 +1,13 @@
 //! What the judge knows past one record of a core.
-ghost use Rattle.std.specs.Prelude.{◌≡◌, ℕ, true, false, None, IfOk, length};
+ghost use Rattle.std.specs.Prelude.{◌≡◌, ℕ, true, false, None, IfOk, length, option_copied};
 ghost use Rattle.xt_map.specs.Memory.{constant_byte};
 ghost use Rattle.xt_frames.specs.Breaches.{stale_after};
 ghost use Rattle.xt_frames.specs.Judging.{seen_record};
-ghost use Rattle.xt_frames.specs.SaveAreas.{is_live};
 ghost use Rattle.xt_frames.specs.Stacks.{Moves};
 ghost use Rattle.xt_frames.specs.Walked.{Walked, fresh_before};
 ghost use Rattle.xt_judged.specs.Kept.{standing_of};
-ghost use Rattle.xt_judged.specs.Lives.{AreApart, is_live_in};
-ghost use Rattle.xt_judged.specs.Past.{HasRoom, IsBefore};
+ghost use Rattle.xt_judged.specs.Lives.{AreApart, is_live_in, others_live};
+ghost use Rattle.xt_judged.specs.Past.{HasRoom, IsBefore, IsOnStack};
 ghost use Rattle.xt_judged.specs.Seen.{IsApartPast, IsKnownPast};
 ghost use Rattle.xt_judged.specs.Stales.{among, renewed};
 
@@ -17,7 +16,7 @@ use crate::scene::Standing;
 use crate::seeing::{Passed, see};
 use crate::stale::Stale;
 use std::alloc::{AllocError, Global};
-use xt_frames::{BreachKind, Frames, Snapshot};
+use xt_frames::{BreachKind, Frames};
 use xt_map::{Access, Constants};
 use xt_trace::StepRecord;
 
@@ -36,7 +35,7 @@ fn known_past(
     alloc: Global,
     before: Before,
     own: &Frames,
-    other: &Snapshot,
+    other: Option<&Frames>,
     stale: &Stale,
     passed: Passed,
     access: Option<Access>,
@@ -45,10 +44,13 @@ fn known_past(
     requires room { HasRoom before.call }
     ensures frames { IfOk result (λ k. k.standing.frames ≡ record own.now { fresh = fresh_before own.now 1; next = 0 }) }
     ensures phase { IfOk result (λ k. k.standing.phase ≡ passed.phase) }
+    ensures stack { IfOk result (λ k. IsOnStack k.standing.frames) }
     ensures same { IfOk result (λ k. passed.judged ≡ false → k.stale ≡ None) }
-    ensures judged { IfOk result (λ k. passed.judged ≡ true → (w : Walked) → IsBefore before w → own.now.bounds ≡ w.bounds → Moves w.state own.now.state → AreApart w other.now stale.now
-        → (a : ℕ) → among (renewed stale.now k.stale) a ≡ stale_after (is_live_in own.now other.now) (is_live_in w other.now) (among stale.now) access a) }
+    ensures judged { IfOk result (λ k. passed.judged ≡ true → (w : Walked) → IsBefore before w → own.now.bounds ≡ w.bounds → Moves w.state own.now.state → AreApart w (option_copied other.entry) stale.now
+        → (a : ℕ) → among (renewed stale.now k.stale) a ≡ stale_after (is_live_in own.now (option_copied other.entry)) (is_live_in w (option_copied other.entry)) (among stale.now) access a) }
 {
+    // (so that the chain of its stack pointers is known)
+    let _depth = own.depth();
     let standing = Standing {
         frames: own.snapshot(alloc, 1)?,
         phase: passed.phase,
@@ -61,7 +63,7 @@ fn known_past(
     Ok(Known { standing, stale })
 }
 
-/// Sees a record of a core, beside what is known of the other core: a breach, or what is known past it.
+/// Sees a record of a core, beside the other core if that is given: a breach, or what is known past it.
 /// The only error is running out of memory.
 ///
 /// Condition: no stale byte lies in a live save area of either core.
@@ -69,34 +71,19 @@ pub fn see_record(
     alloc: Global,
     code: &Constants,
     own: &Standing,
-    other: &Standing,
+    other: Option<&Frames>,
     stale: &Stale,
     rec: &StepRecord,
 ) -> Result<Result<Known, BreachKind>, AllocError>
-    requires apart { AreApart own.now.frames other.now.frames stale.now }
-    ensures known { IfOk result (IsKnownPast own.now stale.now (seen_record (constant_byte code.now) own.now.frames.bounds (standing_of own.now) (is_live other.now.frames.bounds.range other.now.frames.state) (among stale.now) rec.now)) }
-    ensures apart { IfOk result (IsApartPast other.now stale.now) }
+    requires apart { AreApart own.now.frames (option_copied other) stale.now }
+    ensures known { IfOk result (IsKnownPast own.now stale.now (seen_record (constant_byte code.now) own.now.frames.bounds (standing_of own.now) (others_live (option_copied other.entry)) (among stale.now) rec.now)) }
+    ensures apart { IfOk result (IsApartPast (option_copied other.entry) stale.now) }
+    ensures stack { IfOk result (λ r. IfOk r (λ k. IsOnStack k.standing.frames)) }
 {
     let mut frames = own.frames.frames(alloc)?;
     let before = kept_before(&frames);
-    match see(
-        alloc,
-        code,
-        own.phase,
-        &mut frames,
-        &other.frames,
-        stale,
-        rec,
-    )? {
-        Ok(passed) => Ok(Ok(known_past(
-            alloc,
-            before,
-            &frames,
-            &other.frames,
-            stale,
-            passed,
-            rec.access,
-        )?)),
+    match see(code, own.phase, &mut frames, other, stale, rec) {
+        Ok(passed) => Ok(Ok(known_past(alloc, before, &frames, other, stale, passed, rec.access)?)),
         Err(breach) => Ok(Err(breach.kind)),
     }
 }

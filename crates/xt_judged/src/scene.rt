@@ -1,7 +1,8 @@
 //! What stands for a world and what the judge knows of it.
-ghost use Rattle.std.specs.Prelude.{◌≡◌, true, length};
+ghost use Rattle.std.specs.Prelude.{◌≡◌, Some, true, length};
 ghost use Rattle.xt_judged.specs.Lives.{AreApart};
 
+use crate::breaches::Met;
 use crate::stale::Stale;
 use std::rc::Rc;
 use xt_frames::{BreachKind, HandlerPhase, Snapshot};
@@ -39,8 +40,10 @@ pub struct Scene {
     pub only: Option<u8>,
     /// The breach to which the last turn came. No turn follows it.
     pub breach: Option<Shown>,
+    /// How many turns of one core led here, when the scene was met first.
+    pub turns: u32,
     // No stale byte is live.
-    ghost apart: { AreApart standing0.value.frames standing1.value.frames stale.value },
+    ghost apart: { AreApart standing0.value.frames (Some standing1.value.frames) stale.value },
 }
 
 // Whether both phases are the same.
@@ -66,6 +69,18 @@ impl Standing {
     /// A number that is the same for equal ones.
     pub fn digest(&self) -> u64 {
         self.frames.digest()
+    }
+}
+
+impl Met for Scene {
+    ghost shows = { λ s. s.breach };
+
+    fn breach(&self) -> Option<Shown> {
+        self.breach
+    }
+
+    fn turns(&self) -> u32 {
+        self.turns
     }
 }
 

@@ -1,8 +1,7 @@
 //! The bytes that are stale.
-ghost use Rattle.std.specs.Prelude.{◌≡◌, ◌≤◌, ◌||◌, ◌&&◌, ◌==◌, ℕ, true, false, IfOk, OnOk, length};
-ghost use Rattle.xt_frames.specs.Breaches.{stores_at};
+ghost use Rattle.std.specs.Prelude.{◌≡◌, ◌≤◌, ◌||◌, ◌&&◌, ◌==◌, ℕ, true, IfOk, OnOk, length};
 ghost use Rattle.xt_judged.specs.Past.{is_spared};
-ghost use Rattle.xt_judged.specs.Stales.{among};
+ghost use Rattle.xt_judged.specs.Stales.{among, some_stored};
 
 use crate::bytes::{is_spared, stores_at};
 use std::alloc::{AllocError, Global};
@@ -83,7 +82,7 @@ fn spared(
 
 // Whether a store writes one of these bytes.
 fn is_written(bytes: &[u32], access: Option<Access>) -> bool
-    ensures { result ≡ false → (a : ℕ) → (among bytes.now a && stores_at access a) ≡ false }
+    ensures { result ≡ some_stored bytes.now access }
 {
     for byte in bytes {
         if stores_at(access, *byte) {
@@ -121,7 +120,7 @@ impl Stale {
 
     /// Whether a store writes a stale byte.
     pub fn is_written(&self, access: Option<Access>) -> bool
-        ensures { result ≡ false → (a : ℕ) → (among self.now a && stores_at access a) ≡ false }
+        ensures { result ≡ some_stored self.now access }
     {
         is_written(self.bytes.as_slice(), access)
     }

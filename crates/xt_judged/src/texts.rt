@@ -1,11 +1,9 @@
 //! The text of everything that can come out.
-ghost use Rattle.std.specs.Prelude.{◌≡◌, ◌+◌, ◌≤◌, ◌^◌, ◌++◌, true, IfOk, OnOk, string_bytes, flat_map, option_map};
+ghost use Rattle.std.specs.Prelude.{◌≡◌, ◌+◌, ◌≤◌, ◌^◌, ◌++◌, IfOk, OnOk, string_bytes, flat_map, option_map};
 ghost use Rattle.std.specs.List.{All};
 ghost use Rattle.xt_map.specs.Memory.{constant_byte};
 ghost use Rattle.xt_trace.specs.Validity.{IsValid};
 ghost use Rattle.xt_image.specs.ImageParts.{IsWellFormed};
-ghost use Rattle.xt_judged.specs.OrderFrames.{AreFrames};
-ghost use Rattle.xt_judged.specs.declared.frames.Frames.TheVariants as judged;
 ghost use Rattle.xt_judged.specs.OutcomesText.{IsAnswersText, answers_text, count_line, end_line, is_all, none_text, outcome_text, race_line, stuck_line, stuck_text};
 
 use crate::frame_lines::push_frames;
@@ -158,37 +156,8 @@ pub fn answers_text(
     Ok(Text::new(out))
 }
 
-// What is judged of the runs of all orders; that they are whole is known only if every order was looked at.
-// The only error is running out of memory.
-fn known_frames(
-    alloc: Global,
-    image: &Image,
-    options: &Options,
-    timed: bool,
-    most: u32,
-    all: bool,
-) -> Result<Frames, AllocError>
-    requires image { IsWellFormed image.now }
-    requires valid { IsValid options.now }
-    ensures are { IfOk result (AreFrames image.now options.now timed) }
-    ensures known { IfOk result (λ f. f ≡ judged.Whole → all ≡ true) }
-{
-    match judge_orders(alloc, image, options, timed, most)? {
-        Frames::Whole => {
-            if all {
-                Ok(Frames::Whole)
-            } else {
-                Ok(Frames::Unknown)
-            }
-        }
-        Frames::Unknown => Ok(Frames::Unknown),
-        Frames::Unchecked => Ok(Frames::Unchecked),
-        Frames::Broken(list) => Ok(Frames::Broken(list)),
-    }
-}
-
 /// The lines of everything that can come out of an image's runs, in any order of their turns, timed or
-/// not, where at most so many worlds are kept. Outcomes have the words at these addresses. The only error is running
+/// not, where each search keeps at most so many worlds. Outcomes have the words at these addresses. The only error is running
 /// out of memory.
 ///
 /// Conditions: the image is well formed, the options are valid, and each address lies at least 4 below
@@ -208,8 +177,7 @@ pub fn outcomes_text(
 {
     well_formed_is_placed();
     let answers = answers_of(alloc, image, options, timed, addresses, most)?;
-    let all = is_all(answers.ended);
-    let frames = known_frames(alloc, image, options, timed, most, all)?;
+    let frames = judge_orders(alloc, image, options, timed, most)?;
     let code = Constants::make(alloc, image.segments.as_slice())?;
     answers_text(alloc, &code, addresses, &answers, &frames)
 }

@@ -1,3 +1,4 @@
+use Rattle.std.specs.Prelude.{option_copied}
 use Rattle.std.proofs.Common.{◌≡◌, ℕ, ◌+◌, ◌-◌, Bool, false, ◌||◌, sym, ◌∙◌, ap}
 use Rattle.xt_frames.specs.Breaches.{some_byte}
 use Rattle.xt_discipline.proofs.Marks.{some_at}
@@ -6,7 +7,7 @@ use Rattle.xt_judged.proofs.bytes.some_live.Goals as goal
 
 pub loop-k-preserved : goal.loop-k-preserved
 loop-k-preserved c =
-    let f : ℕ → Bool = is_live_in c.args.own.now c.args.other.now in
+    let f : ℕ → Bool = is_live_in c.args.own.now (option_copied c.args.other) in
     let k = c.loop-k.k in
     let here : f (c.args.addr + k) ≡ false = sym c.is_live_in.ensures ∙ c.if-is_live_in.false in
     sym (some_at f c.args.addr c.args.size k c.loop-k-test.true ∙ ap (λ (b : Bool). b || some_byte f (c.args.addr + (k + 1)) (c.args.size - (k + 1))) here) ∙ c.loop-k.invariant

@@ -1,8 +1,7 @@
 use Rattle.std.proofs.Common.{Bool, ◌||◌, not, ◌&&◌, ap, ◌∙◌}
+use Rattle.std.specs.Prelude.{option_copied}
 use Rattle.xt_map.specs.Touching.{touches}
 use Rattle.xt_frames.specs.Breaches.{stores_at}
-use Rattle.xt_frames.specs.Walked.{Walked}
-use Rattle.xt_discipline.specs.Sides.{in_areas}
 use Rattle.xt_judged.specs.Lives.{is_live_in}
 use Rattle.xt_judged.specs.Stales.{among}
 use Rattle.xt_judged.proofs.Gathered.{both_gone}
@@ -15,7 +14,7 @@ returns c = λ a.
     let w : Bool = stores_at c.args.access a in
     let t : Bool = touches c.args.call.low 16 a in
     let u : Bool = touches c.args.call.high c.args.call.size a in
-    let n : Bool = not (is_live_in own c.in_ok-others.others a) in
+    let n : Bool = not (is_live_in own (option_copied c.args.other) a) in
     c.in_ok-add_gone-2.ensures a
     ∙ (ap (λ (x : Bool). x || (u && n)) (c.in_ok-add_gone.ensures a ∙ ap (λ (x : Bool). x || (t && n)) (c.in_ok-after.ensures a))
-    ∙ (both_gone s w t u n ∙ ap (λ (o : Walked). (s && not w) || (in_areas c.args.call a && not (is_live_in own o a))) c.in_ok-others.ensures))
+    ∙ both_gone s w t u n)

@@ -1,4 +1,4 @@
-use Rattle.std.proofs.Common.{◌≡◌, List, ℕ, ap, sym, ◌∙◌}
+use Rattle.std.proofs.Common.{◌≡◌, List, ℕ, ap, ◌∙◌}
 use Rattle.xt_map.specs.declared.segment.Segment.{Segment}
 use Rattle.xt_map.specs.Memory.{constant_byte}
 use Rattle.xt_judged.specs.OutcomesText.{IsAnswersText, answers_text}
@@ -17,7 +17,6 @@ returns c =
       answers = a;
       are = c.in_ok-answers.ensures;
       frames = f;
-      are_frames = c.in_ok-frames.ensures.are;
-      known = λ e. sym c.is_all-all.ensures ∙ c.in_ok-frames.ensures.known e;
+      are_frames = c.in_ok-frames.ensures;
       text_is = is ∙ ap (λ (s : List Segment). answers_text (constant_byte s) words a f) segments;
     }) c.answers_text.ensures

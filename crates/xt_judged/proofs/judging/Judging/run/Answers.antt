@@ -1,7 +1,7 @@
 use Rattle.std.proofs.Common.{◌≡◌, ℕ, ◌+◌, ◌-◌, sym, ◌∙◌, arith}
 use Rattle.xt_map.specs.Memory.{constant_byte}
 use Rattle.xt_exec.specs.Chips.{processor}
-use Rattle.xt_outcomes.proofs.Spreading.{onward_end, onward_off, onward_on, onward_start, turn_last}
+use Rattle.xt_outcomes.proofs.Spreading.{onward_end, onward_off, onward_on, onward_start}
 use Rattle.xt_judged.specs.Scenes.{Scene, scene_past}
 use Rattle.xt_judged.specs.Kept.{bounds0, bounds1, goes_on, scene_of, stretch}
 use Rattle.xt_judged.proofs.judging.Judging.run.Goals as goal
@@ -15,7 +15,6 @@ loop-made-init c =
     let turn = c.in_ok-next.ensures in
     record {
       run = onward_start (goes_on code t.timed c.args.core) (scene_past (processor code) code (bounds0 v) (bounds1 v) t.timed c.args.core) c.args.self.now.most_alone (scene_of m v) (scene_of m c.in_ok-next.next) turn.turn;
-      turns = turn.turn;
       count = omega arith;
       same0 = turn.same0;
       same1 = turn.same1;
@@ -39,7 +38,6 @@ loop-made-preserved c =
     let one : scene_of m next ≡ step core u = turn.turn ∙ (λ i. scene_past (processor code) code (old.same0 i) (old.same1 i) t.timed core u) in
     record {
       run = onward_on (goes_on code t.timed core) (step core) most c.loop-made.made u (scene_of m next) (stretch code (bounds0 v) (bounds1 v) t.timed most core (scene_of m v)) c.loop-made-test.true on one old.run;
-      turns = turn_last step core c.loop-made.turns u (scene_of m next) (scene_of m v) old.turns one;
       count = omega arith;
       same0 = turn.same0 ∙ old.same0;
       same1 = turn.same1 ∙ old.same1;

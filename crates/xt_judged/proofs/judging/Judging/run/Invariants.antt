@@ -1,8 +1,7 @@
 use Rattle.std.proofs.Common.{◌≡◌, ◌+◌, ◌-◌}
 use Rattle.xt_map.specs.Memory.{constant_byte}
 use Rattle.xt_exec.specs.Chips.{processor}
-use Rattle.xt_search.specs.Meetings.{after, onward}
-use Rattle.xt_outcomes.specs.Places.{turns_of}
+use Rattle.xt_search.specs.Meetings.{onward}
 use Rattle.xt_judged.specs.Scenes.{scene_past}
 use Rattle.xt_judged.specs.Kept.{bounds0, bounds1, goes_on, scene_of, stretch}
 use Rattle.xt_judged.proofs.judging.Judging.run.Given as goal
@@ -16,7 +15,6 @@ invariant-loop-made l =
     record {
       run : stretch code (bounds0 l.scene) (bounds1 l.scene) t.timed l.self.most_alone l.core first
           ≡ onward (goes_on code t.timed l.core) (step l.core) (l.self.most_alone - l.made) (scene_of t.opening.contents l.next);
-      turns : scene_of t.opening.contents l.next ≡ after step (turns_of l.core l.turns) first;
       count : l.turns ≡ l.made + 1;
       same0 : bounds0 l.next ≡ bounds0 l.scene;
       same1 : bounds1 l.next ≡ bounds1 l.scene;

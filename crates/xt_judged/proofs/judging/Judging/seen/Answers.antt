@@ -1,8 +1,10 @@
+use Rattle.std.proofs.Common.{ap, ◌∙◌}
+use Rattle.xt_judged.specs.declared.scene.Standing.{Standing}
 use Rattle.xt_map.specs.Memory.{constant_byte}
 use Rattle.xt_judged.proofs.Turned.{known_in}
 use Rattle.xt_judged.proofs.judging.Judging.seen.Goals as goal
 
 pub returns-clause-known : goal.returns-clause-known
 returns-clause-known c = λ m.
-    known_in (constant_byte c.args.self.now.timed.code) c.args.core m c.args.scene.now c.args.rec.now c.own-own.result.now c.other-other.result.now c.as_ref.result.now c.see_record.result
-    c.own-own.ensures c.other-other.ensures c.as_ref.ensures c.see_record.ensures.known
+    known_in (constant_byte c.args.self.now.timed.code) c.args.core m c.args.scene.now c.args.rec.now c.own-own.result.now c.in_ok-other.other c.as_ref.result.now c.see_record.result
+    c.own-own.ensures (c.in_ok-other.ensures ∙ ap (λ (s : Standing). s.frames) c.other.ensures) c.as_ref.ensures c.see_record.ensures.known

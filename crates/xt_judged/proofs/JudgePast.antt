@@ -1,0 +1,68 @@
+-- The judge of one core past a record, from what the program knows of it.
+use Rattle.std.proofs.Common.{◌≡◌, ℕ, Bool, true, false, cond, Ok, Err, None, List, refl, sym, ap, ◌∙◌, subst}
+use Rattle.xt_trace.specs.declared.record.StepRecord.{StepRecord}
+use Rattle.xt_frames.specs.declared.kinds.BreachKind.{BreachKind}
+use Rattle.xt_frames.specs.Judging.{Seen, Handled, Judges, Breaks, seen_record}
+use Rattle.xt_frames.specs.SaveAreas.{Range}
+use Rattle.xt_frames.specs.Walked.{Walked}
+use Rattle.xt_judged.specs.Kept.{standing_of}
+use Rattle.xt_judged.specs.Lives.{AreApart}
+use Rattle.xt_judged.specs.OwnJudges.{Judge, comes_to, is_within, judge_past, judge_seen}
+use Rattle.xt_judged.specs.Past.{IsOnStack}
+use Rattle.xt_judged.specs.Seen.{IsKnownPast}
+use Rattle.xt_judged.specs.Stales.{among, renewed}
+use Rattle.xt_judged.specs.WatchedKept.{judge_of}
+use Rattle.xt_judged.specs.declared.record.Known.{Known}
+use Rattle.xt_judged.specs.declared.watched.OwnJudge.{OwnJudge}
+use Rattle.xt_judged.specs.declared.watched.Fate.{Fate}
+use Rattle.xt_judged.specs.declared.watched.Fate.TheVariants as fate
+use Rattle.xt_judged.proofs.Within.{stack_within}
+
+module _ (code : ℕ → ℕ) (other : Range) (c : ℕ) (j : OwnJudge) (rec : StepRecord) where
+  abbrev own : Judge
+  own = judge_of j
+
+  abbrev pub alone : Seen
+  alone = seen_record code own.bounds own.standing (λ a. false) own.stale rec
+
+  abbrev crossed : Judge
+  crossed = record own { fate = fate.Crossed }
+
+  pub past_crossed : comes_to other rec.access ≡ true → crossed ≡ judge_past code other c own rec
+  past_crossed e = sym (ap (λ (b : Bool). let k : Judge = cond b crossed (judge_seen c rec own alone) in k) e)
+
+  past_here : comes_to other rec.access ≡ false → judge_seen c rec own alone ≡ judge_past code other c own rec
+  past_here e = sym (ap (λ (b : Bool). let k : Judge = cond b crossed (judge_seen c rec own alone) in k) e)
+
+  abbrev pub with_past : Known → Judge
+  with_past k = record { standing = standing_of k.standing; bounds = k.standing.frames.bounds; stale = among (renewed j.stale k.stale); fate = j.fate }
+
+  known_seen : (s : Seen) (k : Known) → IsOnStack k.standing.frames → IsKnownPast j.standing j.stale s (Ok k) → with_past k ≡ judge_seen c rec own s
+  known_seen (Handled st) k on h =
+      let within : is_within own.bounds.range st.frame ≡ true = sym (λ i. is_within (h.1 i).range (h.0 i).frame) ∙ stack_within k.standing.frames.bounds.range k.standing.frames.state on in
+      let new : Judge = record { standing = st; bounds = own.bounds; stale = own.stale; fate = own.fate } in
+      (λ i. record { standing = h.0 i; bounds = h.1 i; stale = h.2 i; fate = j.fate })
+      ∙ sym (ap (λ (b : Bool). let n : Judge = cond b new crossed in n) within)
+  known_seen (Judges st after) k on h =
+      let within : is_within own.bounds.range st.frame ≡ true = sym (λ i. is_within (h.1 i).range (h.0 i).frame) ∙ stack_within k.standing.frames.bounds.range k.standing.frames.state on in
+      let new : Judge = record { standing = st; bounds = own.bounds; stale = after; fate = own.fate } in
+      (λ i. record { standing = h.0 i; bounds = h.1 i; stale = h.2 i; fate = j.fate })
+      ∙ sym (ap (λ (b : Bool). let n : Judge = cond b new crossed in n) within)
+  known_seen (Breaks kind) k on h = absurd h
+
+  pub past_known : (k : Known) → comes_to other rec.access ≡ false → IsOnStack k.standing.frames → IsKnownPast j.standing j.stale alone (Ok k) → with_past k ≡ judge_past code other c own rec
+  past_known k e on h = known_seen alone k on h ∙ past_here e
+
+  broken_seen : (s : Seen) (kind : BreachKind) → IsKnownPast j.standing j.stale s (Err kind)
+      → (let n : Judge = record own { fate = fate.Broke (record { core = c; pc = rec.pc; kind = kind }) } in n) ≡ judge_seen c rec own s
+  broken_seen (Handled st) kind h = absurd h
+  broken_seen (Judges st after) kind h = absurd h
+  broken_seen (Breaks k) kind h = ap (λ (x : BreachKind). let n : Judge = record own { fate = fate.Broke (record { core = c; pc = rec.pc; kind = x }) } in n) h
+
+  pub past_broken : (kind : BreachKind) → comes_to other rec.access ≡ false → IsKnownPast j.standing j.stale alone (Err kind)
+      → (let n : Judge = record own { fate = fate.Broke (record { core = c; pc = rec.pc; kind = kind }) } in n) ≡ judge_past code other c own rec
+  past_broken kind e h = broken_seen alone kind h ∙ past_here e
+
+-- the same frames and bytes are apart
+pub apart_same : (v w : Walked) (xs ys : List ℕ) → w ≡ v → ys ≡ xs → AreApart v None xs → AreApart w None ys
+apart_same v w xs ys e f h = subst (λ (u : Walked). AreApart u None ys) (sym e) (subst (λ (l : List ℕ). AreApart v None l) (sym f) h)

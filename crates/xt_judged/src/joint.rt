@@ -1,0 +1,66 @@
+//! The search in which the judge looks at both cores, whose accesses may come to each other's stacks.
+ghost use Rattle.std.specs.Prelude.{◌≡◌, true, IfOk};
+ghost use Rattle.xt_map.specs.Placing.{IsPlaced};
+ghost use Rattle.xt_trace.specs.Validity.{IsValid};
+ghost use Rattle.xt_image.specs.ImageParts.{FitsImage};
+ghost use Rattle.xt_judged.specs.Runs.{AllAreWhole, are_checked};
+ghost use Rattle.xt_judged.specs.Searched.{IsSearch};
+
+use crate::breaches::shows_some;
+use crate::judging::{Desk, Judging};
+use crate::opening::open;
+use crate::scene::Scene;
+use std::alloc::{AllocError, Global};
+use xt_image::Image;
+use xt_outcomes::{Dead, Places, Timed};
+use xt_search::{Graph, has_all, search};
+use xt_trace::Options;
+
+// How many turns a core makes alone at once.
+const MOST_ALONE: u16 = 4096;
+
+/// The machine of an image, and the scenes that were found.
+#[derive(Drop)]
+pub struct Search<'a> {
+    pub machine: Judging<'a>,
+    pub graph: Graph<Scene>,
+}
+
+/// The scenes of an image, at most so many. The only error is running out of memory.
+///
+/// Conditions: the options are valid, and the image's segments lie in one region each and share no
+/// byte, as those of every image that was read.
+pub fn search_scenes<'a>(
+    alloc: Global,
+    image: &'a Image,
+    options: &Options,
+    timed: bool,
+    desk: &mut Desk,
+    most: u32,
+) -> Result<Search<'a>, AllocError>
+    requires valid { IsValid options.now }
+    requires fits { FitsImage image.now }
+    requires placed { IsPlaced image.now.segments }
+    ensures { IfOk result (IsSearch image.now options.now timed) }
+{
+    let machine = Judging {
+        timed: Timed::make(alloc, image, options, timed, Places::met(alloc), Dead::none(alloc), 0)?,
+        most_alone: MOST_ALONE,
+        alloc,
+    };
+    let opening = open(alloc, image, options, timed)?;
+    let graph = search(alloc, &machine, desk, opening, most)?;
+    Ok(Search { machine, graph })
+}
+
+/// Whether the search has shown that no run has a breach.
+pub fn is_whole(image: &Image, options: &Options, timed: bool, search: &Search) -> bool
+    requires search { IsSearch image.now options.now timed search.now }
+    requires checked { are_checked image.now options.now ≡ true }
+    ensures { result ≡ true → AllAreWhole image.now options.now timed }
+{
+    if shows_some(&search.graph) {
+        return false;
+    }
+    has_all(&search.machine, &search.graph)
+}
