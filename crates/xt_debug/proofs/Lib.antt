@@ -1,4 +1,3 @@
-pub mod Halves
 pub mod Commands
 pub mod Found
 pub mod Scripts

@@ -2,11 +2,11 @@
 --
 -- Note: `special` shows what RSR reads, so INTERRUPT and PRID are there and INTSET and INTCLEAR,
 -- which only WSR reaches, are not; THREADPTR, the one user register, stands last.
-use Rattle.std.specs.Prelude.{ℕ, zero, suc, ◌+◌, ◌%◌, ◌^◌, ◌==◌, if◌then◌else◌, Option, Some, None}
+use Rattle.std.specs.Prelude.{ℕ, ◌+◌, ◌==◌, if◌then◌else◌, Option, Some, None}
 use Rattle.std.specs.Prelude.{List, [], ◌++◌, codes, filter}
 use Rattle.std.specs.List.{flat_map, range_with_len}
 use Rattle.std.specs.Fmt.{decimal}
-use Rattle.xt_word.specs.Hexadecimal.{hex_digits, hex2, hex8}
+use Rattle.xt_word.specs.Hexadecimal.{hex8}
 use Rattle.xt_isa.specs.Numbers as number
 use Rattle.xt_isa.specs.Spelling.{can_read}
 use Rattle.xt_names.specs.declared.forms.Access.TheVariants.{Read}
@@ -15,12 +15,9 @@ use Rattle.xt_special.specs.Access.{value_read}
 use Rattle.xt_special.specs.Control.{ps_word, special_of}
 use Rattle.xt_window.specs.Ring.{bit, visible}
 use Rattle.xt_exec.specs.State.{State}
+use Rattle.xt_events.specs.Lines.{hex4}
 
 -- ---- `regs C`
-
--- 16 bits
-unfoldable pub hex4 : ℕ → List ℕ
-hex4 n = hex_digits 4 n
 
 -- `core C step N pc ADDR ps WORD wb D ws HHHH`, where N is the number of the core's next step
 unfoldable pub core_line : ℕ → ℕ → State → List ℕ

@@ -28,7 +28,6 @@ enum Course {
 
 /// What the judge knows of the frames of both cores, at one position of a run after another. Contracts
 /// see the image, the run and the position.
-#[derive(Drop)]
 pub struct FrameWalk<'a> {
     image: &'a Image,
     run: &'a Run,
@@ -50,6 +49,23 @@ impl<'a> Model for FrameWalk<'a> {
     ghost view = { state_of };
 
     ghost invariant = { IsAtPosition };
+}
+
+// A `drop` of its own is a call at each place where a walk is dropped; a derived one is laid out there
+// field by field.
+impl Drop for FrameWalk<'_> {
+    fn drop(self) {
+        let FrameWalk {
+            image: _,
+            run: _,
+            schedule: _,
+            records0: _,
+            records1: _,
+            walk: _,
+            course: _,
+            position: _,
+        } = self;
+    }
 }
 
 // How a walk begins, by whether the window handlers pass their check.
@@ -128,11 +144,11 @@ impl<'a> FrameWalk<'a> {
         ensures { IfOk result (λ w. w ≡ record { image = image.now; run = run.now; position = 0 }) }
     {
         let handlers = handlers_of(alloc, image, run.options.vecbase)?;
-        let code = Constants::make(alloc, image.segments.as_slice())?;
-        let walk = Walk::open(alloc, code, image.entry, &run.options)?;
         let schedule = schedule_of(alloc, run)?;
         let records0 = Cursor::make(alloc, image, run, 0)?;
         let records1 = Cursor::make(alloc, image, run, 1)?;
+        let code = Constants::make(alloc, image.segments.as_slice())?;
+        let walk = Walk::open(alloc, code, image.entry, &run.options)?;
         Ok(FrameWalk {
             image,
             run,

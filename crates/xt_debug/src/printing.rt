@@ -1,22 +1,14 @@
 //! What `regs` and `frames` print.
 ghost use Rattle.std.specs.Prelude.{◌≡◌, ◌<◌, ◌++◌, OnOk, string_bytes};
 ghost use Rattle.xt_exec.specs.States.{file_state};
-ghost use Rattle.xt_debug.specs.Printed.{core_line, frames_text, hex4, register, registers_line, regs_text};
+ghost use Rattle.xt_debug.specs.Printed.{core_line, frames_text, register, registers_line, regs_text};
 
 use std::alloc::{AllocError, Global};
 use std::fmt::Write;
+use xt_events::push_hex4;
 use xt_exec::Regs;
 use xt_window::{WindowFile, Windows};
-use xt_word::{push_hex2, push_hex8};
-
-// Appends 16 bits in four upper-case hexadecimal digits.
-#[tactic(auto, using(crate::proofs::Halves::two_halves))]
-fn push_hex4(out: &mut String, bits: u16) -> Result<(), AllocError>
-    ensures { OnOk result (string_bytes out.new ≡ string_bytes out.old ++ hex4 bits) }
-{
-    push_hex2(out, (bits / 256) as u8)?;
-    push_hex2(out, (bits % 256) as u8)
-}
+use xt_word::push_hex8;
 
 #[tactic(auto, unfolding(crate::specs::Printed::core_line))]
 fn push_core(

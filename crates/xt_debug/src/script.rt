@@ -4,7 +4,6 @@ ghost use Rattle.xt_debug.specs.declared.script.ScriptFault.TheVariants.{Memory}
 use crate::targets::Target;
 use std::alloc::{AllocError, AllocFailed};
 use std::marker::Model;
-use thiserror::Error;
 
 /// A command of a script. A core is 0 or 1, a position a number of steps of the run's schedule.
 #[derive(Drop)]
@@ -75,13 +74,11 @@ impl Script {
 }
 
 /// Why a text is no script.
-#[derive(Clone, Copy, Debug, PartialEq, Eq, Error)]
+#[derive(Clone, Copy)]
 pub enum ScriptFault {
     /// The text is not a list of commands.
-    #[error("no script")]
     Bad,
     /// There is not enough memory for the script.
-    #[error("out of memory")]
     Memory,
 }
 

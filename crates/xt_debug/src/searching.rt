@@ -76,31 +76,29 @@ fn any_stores(addr: u32, entries: &[Entry]) -> bool
 }
 
 // Makes the next step, and answers whether it stores into the word at this address.
-fn step_stores(replay: &mut Replay, addr: u32, next: u32) -> bool
-    requires next { next ≡ replay.old.position + 1 }
-    requires more { replay.old.position < end_of replay.old.run }
+fn step_stores(replay: &mut Replay, addr: u32) -> bool
+    requires { replay.old.position < end_of replay.old.run }
     ensures moved { replay.new ≡ replay_at replay.old (replay.old.position + 1) }
     ensures stores { result ≡ stores_word replay.old.image replay.old.run addr replay.old.position }
 {
     let before = replay.served() as usize;
-    let _ = replay.seek(next);
+    replay.step();
     let after = replay.served() as usize;
     before < after && any_stores(addr, &replay.run().history.as_slice()[before..after])
 }
 
 // Makes the next step, and answers whether the target is found where it begins.
-fn step_hits(replay: &mut Replay, target: &Target, next: u32) -> bool
+fn step_hits(replay: &mut Replay, target: &Target) -> bool
     requires core { HasCore target.now }
-    requires next { next ≡ replay.old.position + 1 }
     requires more { replay.old.position < end_of replay.old.run }
     ensures moved { replay.new ≡ replay_at replay.old (replay.old.position + 1) }
     ensures hits { result ≡ hits replay.old.image replay.old.run target.now replay.old.position }
 {
     match target {
-        Target::Store(addr) => step_stores(replay, *addr, next),
+        Target::Store(addr) => step_stores(replay, *addr),
         Target::Execution(breakpoint) => {
             let found = is_next(replay, breakpoint);
-            reach(replay, next);
+            replay.step();
             found
         }
     }
@@ -115,7 +113,7 @@ fn first(replay: &mut Replay, target: &Target) -> Option<u32>
 {
     let end = end_of(replay);
     for position in replay.position()..end {
-        if step_hits(replay, target, position + 1) {
+        if step_hits(replay, target) {
             return Some(position);
         }
     }
@@ -141,7 +139,7 @@ fn last_until(replay: &mut Replay, target: &Target, to: u32) -> Option<u32>
 {
     let mut found = None;
     for position in replay.position()..to {
-        let is_found = step_hits(replay, target, position + 1);
+        let is_found = step_hits(replay, target);
         found = newer(is_found, position, found);
     }
     found

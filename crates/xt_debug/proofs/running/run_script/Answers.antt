@@ -1,10 +1,10 @@
-use Rattle.std.proofs.Common.{◌≡◌, ◌<◌, ◌≤◌, ◌+◌, ◌++◌, false, true, length, take, get_or, refl, sym, ap, ◌∙◌, subst, arith}
+use Rattle.std.proofs.Common.{◌≡◌, ◌<◌, ◌≤◌, ◌+◌, ◌++◌, false, true, length, take, get_or, sym, ap, ◌∙◌, subst, arith}
 use Rattle.xt_replay.specs.Shown.{ReplayState, replay_at}
 use Rattle.xt_debug.specs.Runs.{IsOf}
 use Rattle.xt_command_line.specs.declared.beyond.Beyond.TheVariants.{GoesOn}
 use Rattle.xt_debug.specs.declared.script.Command.{Command}
 use Rattle.xt_debug.specs.Scripts.{Outcome, after, outcome, script_outcome, stops}
-use Rattle.xt_debug.proofs.Scripts.{all_done, ends_here, goes_on, led_beyond, next_command, past, split}
+use Rattle.xt_debug.proofs.Scripts.{all_done, ends_here, goes_on, led_beyond, next_command, past}
 use Rattle.xt_debug.proofs.running.run_script.Goals as goal
 
 pub loop-command-preserved : goal.loop-command-preserved

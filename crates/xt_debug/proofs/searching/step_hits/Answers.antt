@@ -1,5 +1,4 @@
 use Rattle.std.proofs.Common.{sym, ap, ◌∙◌, subst}
-use Rattle.xt_replay.specs.Shown.{replay_at}
 use Rattle.xt_debug.specs.Grammar.{HasCore}
 use Rattle.xt_debug.specs.Searches.{hits}
 use Rattle.xt_debug.specs.declared.targets.Target.{Target}
@@ -12,9 +11,6 @@ pub returns-in-Store-clause-hits : goal.returns-in-Store-clause-hits
 returns-in-Store-clause-hits c =
     let s = c.args.replay.now in
     c.step_stores.ensures.stores ∙ sym (ap (λ (t : Target). hits s.image s.run t s.position) c.in-Store.is)
-
-pub returns-in-Execution-clause-moved : goal.returns-in-Execution-clause-moved
-returns-in-Execution-clause-moved c = c.reach.ensures ∙ ap (replay_at c.args.replay.now) c.requires.next
 
 pub returns-in-Execution-clause-hits : goal.returns-in-Execution-clause-hits
 returns-in-Execution-clause-hits c =
