@@ -64,7 +64,7 @@ pub enum Job {
 }
 
 /// What `tool_main` answers.
-#[derive(Clone, Copy, PartialEq, Eq)]
+#[derive(Clone, Copy)]
 pub enum Tool {
     /// The program ended with this status.
     Answer(Status),

@@ -50,7 +50,15 @@ fn search_by<'a>(
     ensures { IfOk result (IsSearch image.now options.now timed) }
 {
     let machine = Watching {
-        timed: Timed::make(alloc, image, options, timed, Places::met(alloc), Dead::none(alloc), 0)?,
+        timed: Timed::make(
+            alloc,
+            image,
+            options,
+            timed,
+            Places::met(alloc),
+            Dead::none(alloc),
+            0,
+        )?,
         places,
         stack0: options.stack0,
         stack1: options.stack1,
@@ -100,7 +108,15 @@ fn watch_both(
     requires fits { FitsImage image.now }
     requires placed { IsPlaced image.now.segments }
 {
-    let machine = Timed::make(alloc, image, options, timed, Places::met(alloc), Dead::none(alloc), 0)?;
+    let machine = Timed::make(
+        alloc,
+        image,
+        options,
+        timed,
+        Places::met(alloc),
+        Dead::none(alloc),
+        0,
+    )?;
     let opening = open_watched(alloc, image, options, timed)?;
     for first in 0..2u8 {
         let mut changes = Changes::new(alloc);
@@ -131,10 +147,7 @@ fn are_settled(search: &OwnSearch) -> bool
     ensures { result ≡ true → AreAllSettled search.now }
 {
     for number in 0..search.graph.kept.len() {
-        if !search
-            .machine
-            .is_settled(&search.graph.kept[number].world)
-        {
+        if !search.machine.is_settled(&search.graph.kept[number].world) {
             return false;
         }
     }
@@ -149,12 +162,7 @@ fn are_apart(options: &Options) -> bool
 }
 
 /// Whether the search has shown that no run has a breach.
-pub fn is_whole(
-    image: &Image,
-    options: &Options,
-    timed: bool,
-    search: &OwnSearch,
-) -> bool
+pub fn is_whole(image: &Image, options: &Options, timed: bool, search: &OwnSearch) -> bool
     requires search { IsSearch image.now options.now timed search.now }
     requires valid { IsValid options.now }
     requires checked { are_checked image.now options.now ≡ true }

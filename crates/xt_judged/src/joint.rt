@@ -44,7 +44,15 @@ pub fn search_scenes<'a>(
     ensures { IfOk result (IsSearch image.now options.now timed) }
 {
     let machine = Judging {
-        timed: Timed::make(alloc, image, options, timed, Places::met(alloc), Dead::none(alloc), 0)?,
+        timed: Timed::make(
+            alloc,
+            image,
+            options,
+            timed,
+            Places::met(alloc),
+            Dead::none(alloc),
+            0,
+        )?,
         most_alone: MOST_ALONE,
         alloc,
     };

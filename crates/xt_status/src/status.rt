@@ -13,7 +13,7 @@ use xt_map::Text;
 use xt_record::RecordFault;
 
 /// How the program ended.
-#[derive(Clone, Copy, PartialEq, Eq)]
+#[derive(Clone, Copy)]
 pub enum Status {
     /// The command did all of its work.
     Done,
