@@ -20,26 +20,26 @@ use Rattle.xt_isa.specs.declared.density.Density.{Density}
 use Rattle.xt_isa.specs.declared.density.Density.TheVariants as density
 use Rattle.xt_isa.specs.declared.boolean.Boolean.{Boolean}
 use Rattle.xt_isa.specs.declared.boolean.Boolean.TheVariants as boolean
-use Rattle.xt_isa.specs.declared.three.AndName.TheVariants as AndName
-use Rattle.xt_isa.specs.declared.three.AddName.TheVariants as AddName
-use Rattle.xt_isa.specs.declared.three.SubName.TheVariants as SubName
+use Rattle.xt_isa.specs.declared.three.BitwiseName.TheVariants as BitwiseName
+use Rattle.xt_isa.specs.declared.three.SumName.TheVariants as SumName
+use Rattle.xt_isa.specs.declared.three.DifferenceName.TheVariants as DifferenceName
 use Rattle.xt_isa.specs.declared.three.Mul16Name.TheVariants as Mul16Name
 use Rattle.xt_isa.specs.declared.three.MulHighName.TheVariants as MulHighName
 use Rattle.xt_isa.specs.declared.three.DivideName.TheVariants as DivideName
-use Rattle.xt_isa.specs.declared.three.MinName.TheVariants as MinName
+use Rattle.xt_isa.specs.declared.three.MinMaxName.TheVariants as MinMaxName
 use Rattle.xt_isa.specs.declared.three.MoveName.TheVariants as MoveName
-use Rattle.xt_isa.specs.declared.shift.NegName.TheVariants as NegName
-use Rattle.xt_isa.specs.declared.shift.SrlName.TheVariants as SrlName
-use Rattle.xt_isa.specs.declared.shift.SextName.TheVariants as SextName
-use Rattle.xt_isa.specs.declared.shift.NsaName.TheVariants as NsaName
-use Rattle.xt_isa.specs.declared.shift.SsrName.TheVariants as SsrName
-use Rattle.xt_isa.specs.declared.shift.Ssa8Name.TheVariants as Ssa8Name
+use Rattle.xt_isa.specs.declared.shift.SignName.TheVariants as SignName
+use Rattle.xt_isa.specs.declared.shift.ShiftRightName.TheVariants as ShiftRightName
+use Rattle.xt_isa.specs.declared.shift.SignedName.TheVariants as SignedName
+use Rattle.xt_isa.specs.declared.shift.NormalizeName.TheVariants as NormalizeName
+use Rattle.xt_isa.specs.declared.shift.AmountName.TheVariants as AmountName
+use Rattle.xt_isa.specs.declared.shift.ByteAmountName.TheVariants as ByteAmountName
 use Rattle.xt_isa.specs.declared.memory.ByteName.TheVariants as ByteName
 use Rattle.xt_isa.specs.declared.memory.HalfName.TheVariants as HalfName
 use Rattle.xt_isa.specs.declared.memory.WordName.TheVariants as WordName
 use Rattle.xt_isa.specs.declared.memory.WindowName.TheVariants as WindowName
 use Rattle.xt_isa.specs.declared.control.CallName.TheVariants as CallName
-use Rattle.xt_isa.specs.declared.control.RetName.TheVariants as RetName
+use Rattle.xt_isa.specs.declared.control.ReturnName.TheVariants as ReturnName
 use Rattle.xt_isa.specs.declared.control.CallxName.TheVariants as CallxName
 use Rattle.xt_isa.specs.declared.control.ZeroName.TheVariants as ZeroName
 use Rattle.xt_isa.specs.declared.control.ConstName.TheVariants as ConstName
@@ -50,14 +50,14 @@ use Rattle.xt_isa.specs.declared.control.BitName.TheVariants as BitName
 use Rattle.xt_isa.specs.declared.control.LoopName.TheVariants as LoopName
 use Rattle.xt_isa.specs.declared.system.SyncName.TheVariants as SyncName
 use Rattle.xt_isa.specs.declared.system.WaitName.TheVariants as WaitName
-use Rattle.xt_isa.specs.declared.system.ReturnName.TheVariants as ReturnName
-use Rattle.xt_isa.specs.declared.system.BreakName.TheVariants as BreakName
+use Rattle.xt_isa.specs.declared.system.ExceptionReturnName.TheVariants as ExceptionReturnName
+use Rattle.xt_isa.specs.declared.system.TrapName.TheVariants as TrapName
 use Rattle.xt_isa.specs.declared.system.LevelName.TheVariants as LevelName
 use Rattle.xt_isa.specs.declared.system.SpecialName.TheVariants as SpecialName
 use Rattle.xt_isa.specs.declared.system.UserName.TheVariants as UserName
 use Rattle.xt_isa.specs.declared.density.NarrowName.TheVariants as NarrowName
 use Rattle.xt_isa.specs.declared.density.NarrowZeroName.TheVariants as NarrowZeroName
-use Rattle.xt_isa.specs.declared.density.NarrowRetName.TheVariants as NarrowRetName
+use Rattle.xt_isa.specs.declared.density.BareName.TheVariants as BareName
 use Rattle.xt_isa.specs.declared.boolean.LogicName.TheVariants as LogicName
 use Rattle.xt_isa.specs.declared.boolean.FourName.TheVariants as FourName
 use Rattle.xt_isa.specs.declared.boolean.EightName.TheVariants as EightName
@@ -115,70 +115,70 @@ rrrn op0 r s t = fields op0 0 0 r s t
 
 -- ---- Words by the tables of instructions.
 abbrev pub three_fields : Three → Fields
-three_fields (three.And AndName.And r s t) = rrr 0 1 r s t
-three_fields (three.And AndName.Or r s t) = rrr 0 2 r s t
-three_fields (three.And AndName.Xor r s t) = rrr 0 3 r s t
-three_fields (three.Add AddName.Add r s t) = rrr 0 8 r s t
-three_fields (three.Add AddName.Addx2 r s t) = rrr 0 9 r s t
-three_fields (three.Add AddName.Addx4 r s t) = rrr 0 10 r s t
-three_fields (three.Add AddName.Addx8 r s t) = rrr 0 11 r s t
-three_fields (three.Sub SubName.Sub r s t) = rrr 0 12 r s t
-three_fields (three.Sub SubName.Subx2 r s t) = rrr 0 13 r s t
-three_fields (three.Sub SubName.Subx4 r s t) = rrr 0 14 r s t
-three_fields (three.Sub SubName.Subx8 r s t) = rrr 0 15 r s t
+three_fields (three.Bitwise BitwiseName.And r s t) = rrr 0 1 r s t
+three_fields (three.Bitwise BitwiseName.Or r s t) = rrr 0 2 r s t
+three_fields (three.Bitwise BitwiseName.Xor r s t) = rrr 0 3 r s t
+three_fields (three.Sum SumName.Add r s t) = rrr 0 8 r s t
+three_fields (three.Sum SumName.Addx2 r s t) = rrr 0 9 r s t
+three_fields (three.Sum SumName.Addx4 r s t) = rrr 0 10 r s t
+three_fields (three.Sum SumName.Addx8 r s t) = rrr 0 11 r s t
+three_fields (three.Difference DifferenceName.Sub r s t) = rrr 0 12 r s t
+three_fields (three.Difference DifferenceName.Subx2 r s t) = rrr 0 13 r s t
+three_fields (three.Difference DifferenceName.Subx4 r s t) = rrr 0 14 r s t
+three_fields (three.Difference DifferenceName.Subx8 r s t) = rrr 0 15 r s t
 three_fields (three.Src r s t) = rrr 1 8 r s t
-three_fields (three.Mul16u Mul16Name.Mul16u r s t) = rrr 1 12 r s t
-three_fields (three.Mul16u Mul16Name.Mul16s r s t) = rrr 1 13 r s t
+three_fields (three.Mul16 Mul16Name.Mul16u r s t) = rrr 1 12 r s t
+three_fields (three.Mul16 Mul16Name.Mul16s r s t) = rrr 1 13 r s t
 three_fields (three.Mull r s t) = rrr 2 8 r s t
-three_fields (three.Muluh MulHighName.Muluh r s t) = rrr 2 10 r s t
-three_fields (three.Muluh MulHighName.Mulsh r s t) = rrr 2 11 r s t
-three_fields (three.Quou DivideName.Quou r s t) = rrr 2 12 r s t
-three_fields (three.Quou DivideName.Quos r s t) = rrr 2 13 r s t
-three_fields (three.Quou DivideName.Remu r s t) = rrr 2 14 r s t
-three_fields (three.Quou DivideName.Rems r s t) = rrr 2 15 r s t
-three_fields (three.Min MinName.Min r s t) = rrr 3 4 r s t
-three_fields (three.Min MinName.Max r s t) = rrr 3 5 r s t
-three_fields (three.Min MinName.Minu r s t) = rrr 3 6 r s t
-three_fields (three.Min MinName.Maxu r s t) = rrr 3 7 r s t
-three_fields (three.Moveqz MoveName.Moveqz r s t) = rrr 3 8 r s t
-three_fields (three.Moveqz MoveName.Movnez r s t) = rrr 3 9 r s t
-three_fields (three.Moveqz MoveName.Movltz r s t) = rrr 3 10 r s t
-three_fields (three.Moveqz MoveName.Movgez r s t) = rrr 3 11 r s t
+three_fields (three.MulHigh MulHighName.Muluh r s t) = rrr 2 10 r s t
+three_fields (three.MulHigh MulHighName.Mulsh r s t) = rrr 2 11 r s t
+three_fields (three.Divide DivideName.Quou r s t) = rrr 2 12 r s t
+three_fields (three.Divide DivideName.Quos r s t) = rrr 2 13 r s t
+three_fields (three.Divide DivideName.Remu r s t) = rrr 2 14 r s t
+three_fields (three.Divide DivideName.Rems r s t) = rrr 2 15 r s t
+three_fields (three.MinMax MinMaxName.Min r s t) = rrr 3 4 r s t
+three_fields (three.MinMax MinMaxName.Max r s t) = rrr 3 5 r s t
+three_fields (three.MinMax MinMaxName.Minu r s t) = rrr 3 6 r s t
+three_fields (three.MinMax MinMaxName.Maxu r s t) = rrr 3 7 r s t
+three_fields (three.Move MoveName.Moveqz r s t) = rrr 3 8 r s t
+three_fields (three.Move MoveName.Movnez r s t) = rrr 3 9 r s t
+three_fields (three.Move MoveName.Movltz r s t) = rrr 3 10 r s t
+three_fields (three.Move MoveName.Movgez r s t) = rrr 3 11 r s t
 
 abbrev pub shift_fields : Shift → Fields
-shift_fields (shift.Neg NegName.Neg r t) = rrr 0 6 r 0 t
-shift_fields (shift.Neg NegName.Abs r t) = rrr 0 6 r 1 t
-shift_fields (shift.Srl SrlName.Srl r t) = rrr 1 9 r 0 t
-shift_fields (shift.Srl SrlName.Sra r t) = rrr 1 11 r 0 t
+shift_fields (shift.Sign SignName.Neg r t) = rrr 0 6 r 0 t
+shift_fields (shift.Sign SignName.Abs r t) = rrr 0 6 r 1 t
+shift_fields (shift.ShiftRight ShiftRightName.Srl r t) = rrr 1 9 r 0 t
+shift_fields (shift.ShiftRight ShiftRightName.Sra r t) = rrr 1 11 r 0 t
 shift_fields (shift.Sll r s) = rrr 1 10 r s 0
 shift_fields (shift.Slli r s n) = rrr 1 ((32 - five n) / 16) r s (32 - five n)
 shift_fields (shift.Srai r t n) = rrr 1 (2 + five n / 16) r (five n) t
 shift_fields (shift.Srli r t n) = rrr 1 4 r (five n) t
 shift_fields (shift.Extui r t n m) = rrr (4 + five n / 16) (five m + 15) r (five n) t
-shift_fields (shift.Sext SextName.Sext r s n) = rrr 3 2 r s (five n + 9)
-shift_fields (shift.Sext SextName.Clamps r s n) = rrr 3 3 r s (five n + 9)
-shift_fields (shift.Nsa NsaName.Nsa t s) = rrr 0 4 14 s t
-shift_fields (shift.Nsa NsaName.Nsau t s) = rrr 0 4 15 s t
+shift_fields (shift.Signed SignedName.Sext r s n) = rrr 3 2 r s (five n + 9)
+shift_fields (shift.Signed SignedName.Clamps r s n) = rrr 3 3 r s (five n + 9)
+shift_fields (shift.Normalize NormalizeName.Nsa t s) = rrr 0 4 14 s t
+shift_fields (shift.Normalize NormalizeName.Nsau t s) = rrr 0 4 15 s t
 shift_fields (shift.Movsp t s) = rrr 0 0 1 s t
-shift_fields (shift.Ssr SsrName.Ssr s) = rrr 0 4 0 s 0
-shift_fields (shift.Ssr SsrName.Ssl s) = rrr 0 4 1 s 0
-shift_fields (shift.Ssa8l Ssa8Name.Ssa8l s) = rrr 0 4 2 s 0
-shift_fields (shift.Ssa8l Ssa8Name.Ssa8b s) = rrr 0 4 3 s 0
+shift_fields (shift.Amount AmountName.Ssr s) = rrr 0 4 0 s 0
+shift_fields (shift.Amount AmountName.Ssl s) = rrr 0 4 1 s 0
+shift_fields (shift.ByteAmount ByteAmountName.Ssa8l s) = rrr 0 4 2 s 0
+shift_fields (shift.ByteAmount ByteAmountName.Ssa8b s) = rrr 0 4 3 s 0
 shift_fields (shift.Ssai n) = rrr 0 4 4 (five n) (five n / 16)
 
 abbrev pub memory_fields : Memory → Fields
-memory_fields (memory.L8ui ByteName.L8ui t s n) = rri8 2 0 s t (bits n)
-memory_fields (memory.L8ui ByteName.S8i t s n) = rri8 2 4 s t (bits n)
-memory_fields (memory.L16ui HalfName.L16ui t s n) = rri8 2 1 s t (bits n / 2)
-memory_fields (memory.L16ui HalfName.L16si t s n) = rri8 2 9 s t (bits n / 2)
-memory_fields (memory.L16ui HalfName.S16i t s n) = rri8 2 5 s t (bits n / 2)
-memory_fields (memory.L32i WordName.L32i t s n) = rri8 2 2 s t (bits n / 4)
-memory_fields (memory.L32i WordName.S32i t s n) = rri8 2 6 s t (bits n / 4)
-memory_fields (memory.L32i WordName.L32ai t s n) = rri8 2 11 s t (bits n / 4)
-memory_fields (memory.L32i WordName.S32ri t s n) = rri8 2 15 s t (bits n / 4)
+memory_fields (memory.Byte ByteName.L8ui t s n) = rri8 2 0 s t (bits n)
+memory_fields (memory.Byte ByteName.S8i t s n) = rri8 2 4 s t (bits n)
+memory_fields (memory.Half HalfName.L16ui t s n) = rri8 2 1 s t (bits n / 2)
+memory_fields (memory.Half HalfName.L16si t s n) = rri8 2 9 s t (bits n / 2)
+memory_fields (memory.Half HalfName.S16i t s n) = rri8 2 5 s t (bits n / 2)
+memory_fields (memory.Word WordName.L32i t s n) = rri8 2 2 s t (bits n / 4)
+memory_fields (memory.Word WordName.S32i t s n) = rri8 2 6 s t (bits n / 4)
+memory_fields (memory.Word WordName.L32ai t s n) = rri8 2 11 s t (bits n / 4)
+memory_fields (memory.Word WordName.S32ri t s n) = rri8 2 15 s t (bits n / 4)
 memory_fields (memory.S32c1i t s n) = rri8 2 14 s t (bits n / 4)
-memory_fields (memory.L32e WindowName.L32e t s n) = rrr 9 0 (bits n / 4 % 32) s t
-memory_fields (memory.L32e WindowName.S32e t s n) = rrr 9 4 (bits n / 4 % 32) s t
+memory_fields (memory.Window WindowName.L32e t s n) = rrr 9 0 (bits n / 4 % 32) s t
+memory_fields (memory.Window WindowName.S32e t s n) = rrr 9 4 (bits n / 4 % 32) s t
 memory_fields (memory.L32r t n) = ri16 t (bits n / 4)
 memory_fields (memory.Movi t n) = rri8 2 10 (bits n / 256 % 32) t (bits n)
 memory_fields (memory.Addi t s n) = rri8 2 12 s t (bits n)
@@ -186,101 +186,104 @@ memory_fields (memory.Addmi t s n) = rri8 2 13 s t (bits n / 256)
 
 abbrev pub control_fields : Control → Fields
 control_fields (control.J n) = call 6 0 (bits n)
-control_fields (control.Call0 CallName.Call0 n) = call 5 0 (bits n / 4)
-control_fields (control.Call0 CallName.Call4 n) = call 5 1 (bits n / 4)
-control_fields (control.Call0 CallName.Call8 n) = call 5 2 (bits n / 4)
-control_fields (control.Call0 CallName.Call12 n) = call 5 3 (bits n / 4)
-control_fields (control.Ret RetName.Ret) = rrr 0 0 0 0 8
-control_fields (control.Ret RetName.Retw) = rrr 0 0 0 0 9
+control_fields (control.Call CallName.Call0 n) = call 5 0 (bits n / 4)
+control_fields (control.Call CallName.Call4 n) = call 5 1 (bits n / 4)
+control_fields (control.Call CallName.Call8 n) = call 5 2 (bits n / 4)
+control_fields (control.Call CallName.Call12 n) = call 5 3 (bits n / 4)
+control_fields (control.Return ReturnName.Ret) = rrr 0 0 0 0 8
+control_fields (control.Return ReturnName.Retw) = rrr 0 0 0 0 9
 control_fields (control.Jx s) = rrr 0 0 0 s 10
-control_fields (control.Callx0 CallxName.Callx0 s) = rrr 0 0 0 s 12
-control_fields (control.Callx0 CallxName.Callx4 s) = rrr 0 0 0 s 13
-control_fields (control.Callx0 CallxName.Callx8 s) = rrr 0 0 0 s 14
-control_fields (control.Callx0 CallxName.Callx12 s) = rrr 0 0 0 s 15
-control_fields (control.Beqz ZeroName.Beqz s n) = bri12 1 s (bits n)
-control_fields (control.Beqz ZeroName.Bnez s n) = bri12 5 s (bits n)
-control_fields (control.Beqz ZeroName.Bltz s n) = bri12 9 s (bits n)
-control_fields (control.Beqz ZeroName.Bgez s n) = bri12 13 s (bits n)
-control_fields (control.Beqi ConstName.Beqi s c n) = rri8 6 (constant c) s 2 (bits n)
-control_fields (control.Beqi ConstName.Bnei s c n) = rri8 6 (constant c) s 6 (bits n)
-control_fields (control.Beqi ConstName.Blti s c n) = rri8 6 (constant c) s 10 (bits n)
-control_fields (control.Beqi ConstName.Bgei s c n) = rri8 6 (constant c) s 14 (bits n)
-control_fields (control.Bltui ConstuName.Bltui s c n) = rri8 6 (constant c) s 11 (bits n)
-control_fields (control.Bltui ConstuName.Bgeui s c n) = rri8 6 (constant c) s 15 (bits n)
-control_fields (control.Bnone BranchName.Bnone s t n) = rri8 7 0 s t (bits n)
-control_fields (control.Bnone BranchName.Beq s t n) = rri8 7 1 s t (bits n)
-control_fields (control.Bnone BranchName.Blt s t n) = rri8 7 2 s t (bits n)
-control_fields (control.Bnone BranchName.Bltu s t n) = rri8 7 3 s t (bits n)
-control_fields (control.Bnone BranchName.Ball s t n) = rri8 7 4 s t (bits n)
-control_fields (control.Bnone BranchName.Bbc s t n) = rri8 7 5 s t (bits n)
-control_fields (control.Bany OppositeName.Bany s t n) = rri8 7 8 s t (bits n)
-control_fields (control.Bany OppositeName.Bne s t n) = rri8 7 9 s t (bits n)
-control_fields (control.Bany OppositeName.Bge s t n) = rri8 7 10 s t (bits n)
-control_fields (control.Bany OppositeName.Bgeu s t n) = rri8 7 11 s t (bits n)
-control_fields (control.Bany OppositeName.Bnall s t n) = rri8 7 12 s t (bits n)
-control_fields (control.Bany OppositeName.Bbs s t n) = rri8 7 13 s t (bits n)
-control_fields (control.Bbci BitName.Bbci s b n) = rri8 7 (6 + five b / 16) s (five b) (bits n)
-control_fields (control.Bbci BitName.Bbsi s b n) = rri8 7 (14 + five b / 16) s (five b) (bits n)
+control_fields (control.Callx CallxName.Callx0 s) = rrr 0 0 0 s 12
+control_fields (control.Callx CallxName.Callx4 s) = rrr 0 0 0 s 13
+control_fields (control.Callx CallxName.Callx8 s) = rrr 0 0 0 s 14
+control_fields (control.Callx CallxName.Callx12 s) = rrr 0 0 0 s 15
+control_fields (control.BranchZero ZeroName.Beqz s n) = bri12 1 s (bits n)
+control_fields (control.BranchZero ZeroName.Bnez s n) = bri12 5 s (bits n)
+control_fields (control.BranchZero ZeroName.Bltz s n) = bri12 9 s (bits n)
+control_fields (control.BranchZero ZeroName.Bgez s n) = bri12 13 s (bits n)
+control_fields (control.BranchConst ConstName.Beqi s c n) = rri8 6 (constant c) s 2 (bits n)
+control_fields (control.BranchConst ConstName.Bnei s c n) = rri8 6 (constant c) s 6 (bits n)
+control_fields (control.BranchConst ConstName.Blti s c n) = rri8 6 (constant c) s 10 (bits n)
+control_fields (control.BranchConst ConstName.Bgei s c n) = rri8 6 (constant c) s 14 (bits n)
+control_fields (control.BranchConstu ConstuName.Bltui s c n) = rri8 6 (constant c) s 11 (bits n)
+control_fields (control.BranchConstu ConstuName.Bgeui s c n) = rri8 6 (constant c) s 15 (bits n)
+control_fields (control.Branch BranchName.Bnone s t n) = rri8 7 0 s t (bits n)
+control_fields (control.Branch BranchName.Beq s t n) = rri8 7 1 s t (bits n)
+control_fields (control.Branch BranchName.Blt s t n) = rri8 7 2 s t (bits n)
+control_fields (control.Branch BranchName.Bltu s t n) = rri8 7 3 s t (bits n)
+control_fields (control.Branch BranchName.Ball s t n) = rri8 7 4 s t (bits n)
+control_fields (control.Branch BranchName.Bbc s t n) = rri8 7 5 s t (bits n)
+control_fields (control.BranchNot OppositeName.Bany s t n) = rri8 7 8 s t (bits n)
+control_fields (control.BranchNot OppositeName.Bne s t n) = rri8 7 9 s t (bits n)
+control_fields (control.BranchNot OppositeName.Bge s t n) = rri8 7 10 s t (bits n)
+control_fields (control.BranchNot OppositeName.Bgeu s t n) = rri8 7 11 s t (bits n)
+control_fields (control.BranchNot OppositeName.Bnall s t n) = rri8 7 12 s t (bits n)
+control_fields (control.BranchNot OppositeName.Bbs s t n) = rri8 7 13 s t (bits n)
+control_fields (control.BranchBit BitName.Bbci s b n) = rri8 7 (6 + five b / 16) s (five b) (bits n)
+control_fields (control.BranchBit BitName.Bbsi s b n) =
+    rri8 7 (14 + five b / 16) s (five b) (bits n)
 control_fields (control.Entry s n) = bri12 3 s (bits n / 8)
 control_fields (control.Loop LoopName.Loop s n) = rri8 6 8 s 7 (bits n)
 control_fields (control.Loop LoopName.Loopnez s n) = rri8 6 9 s 7 (bits n)
 control_fields (control.Loop LoopName.Loopgtz s n) = rri8 6 10 s 7 (bits n)
 
 abbrev pub system_fields : System → Fields
-system_fields (system.Ill SyncName.Ill) = rrr 0 0 0 0 0
-system_fields (system.Ill SyncName.Isync) = rrr 0 0 2 0 0
-system_fields (system.Ill SyncName.Rsync) = rrr 0 0 2 0 1
-system_fields (system.Ill SyncName.Esync) = rrr 0 0 2 0 2
-system_fields (system.Ill SyncName.Dsync) = rrr 0 0 2 0 3
-system_fields (system.Excw WaitName.Excw) = rrr 0 0 2 0 8
-system_fields (system.Excw WaitName.Memw) = rrr 0 0 2 0 12
-system_fields (system.Excw WaitName.Extw) = rrr 0 0 2 0 13
-system_fields (system.Excw WaitName.Nop) = rrr 0 0 2 0 15
-system_fields (system.Rfe ReturnName.Rfe) = rrr 0 0 3 0 0
-system_fields (system.Rfe ReturnName.Rfde) = rrr 0 0 3 2 0
-system_fields (system.Rfe ReturnName.Rfwo) = rrr 0 0 3 4 0
-system_fields (system.Rfe ReturnName.Rfwu) = rrr 0 0 3 5 0
+system_fields (system.Sync SyncName.Ill) = rrr 0 0 0 0 0
+system_fields (system.Sync SyncName.Isync) = rrr 0 0 2 0 0
+system_fields (system.Sync SyncName.Rsync) = rrr 0 0 2 0 1
+system_fields (system.Sync SyncName.Esync) = rrr 0 0 2 0 2
+system_fields (system.Sync SyncName.Dsync) = rrr 0 0 2 0 3
+system_fields (system.Wait WaitName.Excw) = rrr 0 0 2 0 8
+system_fields (system.Wait WaitName.Memw) = rrr 0 0 2 0 12
+system_fields (system.Wait WaitName.Extw) = rrr 0 0 2 0 13
+system_fields (system.Wait WaitName.Nop) = rrr 0 0 2 0 15
+system_fields (system.ExceptionReturn ExceptionReturnName.Rfe) = rrr 0 0 3 0 0
+system_fields (system.ExceptionReturn ExceptionReturnName.Rfde) = rrr 0 0 3 2 0
+system_fields (system.ExceptionReturn ExceptionReturnName.Rfwo) = rrr 0 0 3 4 0
+system_fields (system.ExceptionReturn ExceptionReturnName.Rfwu) = rrr 0 0 3 5 0
 system_fields (system.Rfi n) = rrr 0 0 3 (five n) 1
-system_fields (system.Break BreakName.Break m n) = rrr 0 0 4 (five m) (five n)
-system_fields (system.Break BreakName.Syscall m n) = rrr 0 0 5 0 0
-system_fields (system.Rsil LevelName.Rsil t n) = rrr 0 0 6 (five n) t
-system_fields (system.Rsil LevelName.Waiti t n) = rrr 0 0 7 (five n) 0
+system_fields (system.Trap TrapName.Break m n) = rrr 0 0 4 (five m) (five n)
+system_fields (system.Trap TrapName.Syscall m n) = rrr 0 0 5 0 0
+system_fields (system.Level LevelName.Rsil t n) = rrr 0 0 6 (five n) t
+system_fields (system.Level LevelName.Waiti t n) = rrr 0 0 7 (five n) 0
 system_fields (system.Rotw n) = rrr 0 4 8 0 (five n)
-system_fields (system.Rsr SpecialName.Rsr t n) = rrr 3 0 (n / 16) n t
-system_fields (system.Rsr SpecialName.Wsr t n) = rrr 3 1 (n / 16) n t
-system_fields (system.Rsr SpecialName.Xsr t n) = rrr 1 6 (n / 16) n t
-system_fields (system.Rur UserName.Rur r n) = rrr 3 14 r 14 7
-system_fields (system.Rur UserName.Wur t n) = rrr 3 15 14 7 t
+system_fields (system.Special SpecialName.Rsr t n) = rrr 3 0 (n / 16) n t
+system_fields (system.Special SpecialName.Wsr t n) = rrr 3 1 (n / 16) n t
+system_fields (system.Special SpecialName.Xsr t n) = rrr 1 6 (n / 16) n t
+system_fields (system.User UserName.Rur r n) = rrr 3 14 r 14 7
+system_fields (system.User UserName.Wur t n) = rrr 3 15 14 7 t
 
 abbrev pub density_fields : Density → Fields
-density_fields (density.L32i NarrowName.L32i t s n) = rrrn 8 (bits n / 4 % 32) s t
-density_fields (density.L32i NarrowName.S32i t s n) = rrrn 9 (bits n / 4 % 32) s t
+density_fields (density.Word NarrowName.L32i t s n) = rrrn 8 (bits n / 4 % 32) s t
+density_fields (density.Word NarrowName.S32i t s n) = rrrn 9 (bits n / 4 % 32) s t
 density_fields (density.Add r s t) = rrrn 10 r s t
 density_fields (density.Addi r s n) = rrrn 11 r s (small n)
 density_fields (density.Movi s n) = rrrn 12 (five n) s (bits n / 16 % 8)
-density_fields (density.Beqz NarrowZeroName.Beqz s n) = rrrn 12 (five n) s (8 + bits n / 16 % 4)
-density_fields (density.Beqz NarrowZeroName.Bnez s n) = rrrn 12 (five n) s (12 + bits n / 16 % 4)
+density_fields (density.BranchZero NarrowZeroName.Beqz s n) =
+    rrrn 12 (five n) s (8 + bits n / 16 % 4)
+density_fields (density.BranchZero NarrowZeroName.Bnez s n) =
+    rrrn 12 (five n) s (12 + bits n / 16 % 4)
 density_fields (density.Mov t s) = rrrn 13 0 s t
-density_fields (density.Ret NarrowRetName.Ret) = rrrn 13 15 0 0
-density_fields (density.Ret NarrowRetName.Retw) = rrrn 13 15 0 1
-density_fields (density.Ret NarrowRetName.Nop) = rrrn 13 15 0 3
-density_fields (density.Ret NarrowRetName.Ill) = rrrn 13 15 0 6
+density_fields (density.Bare BareName.Ret) = rrrn 13 15 0 0
+density_fields (density.Bare BareName.Retw) = rrrn 13 15 0 1
+density_fields (density.Bare BareName.Nop) = rrrn 13 15 0 3
+density_fields (density.Bare BareName.Ill) = rrrn 13 15 0 6
 density_fields (density.Break n) = rrrn 13 15 (five n) 2
 
 abbrev pub boolean_fields : Boolean → Fields
-boolean_fields (boolean.Andb LogicName.Andb r s t) = rrr 2 0 r s t
-boolean_fields (boolean.Andb LogicName.Andbc r s t) = rrr 2 1 r s t
-boolean_fields (boolean.Andb LogicName.Orb r s t) = rrr 2 2 r s t
-boolean_fields (boolean.Andb LogicName.Orbc r s t) = rrr 2 3 r s t
-boolean_fields (boolean.Andb LogicName.Xorb r s t) = rrr 2 4 r s t
-boolean_fields (boolean.Any4 FourName.Any4 t s) = rrr 0 0 8 s t
-boolean_fields (boolean.Any4 FourName.All4 t s) = rrr 0 0 9 s t
-boolean_fields (boolean.Any8 EightName.Any8 t s) = rrr 0 0 10 s t
-boolean_fields (boolean.Any8 EightName.All8 t s) = rrr 0 0 11 s t
-boolean_fields (boolean.Bf TestName.Bf s n) = rri8 6 0 s 7 (bits n)
-boolean_fields (boolean.Bf TestName.Bt s n) = rri8 6 1 s 7 (bits n)
-boolean_fields (boolean.Movf ChoiceName.Movf r s t) = rrr 3 12 r s t
-boolean_fields (boolean.Movf ChoiceName.Movt r s t) = rrr 3 13 r s t
+boolean_fields (boolean.Logic LogicName.Andb r s t) = rrr 2 0 r s t
+boolean_fields (boolean.Logic LogicName.Andbc r s t) = rrr 2 1 r s t
+boolean_fields (boolean.Logic LogicName.Orb r s t) = rrr 2 2 r s t
+boolean_fields (boolean.Logic LogicName.Orbc r s t) = rrr 2 3 r s t
+boolean_fields (boolean.Logic LogicName.Xorb r s t) = rrr 2 4 r s t
+boolean_fields (boolean.Four FourName.Any4 t s) = rrr 0 0 8 s t
+boolean_fields (boolean.Four FourName.All4 t s) = rrr 0 0 9 s t
+boolean_fields (boolean.Eight EightName.Any8 t s) = rrr 0 0 10 s t
+boolean_fields (boolean.Eight EightName.All8 t s) = rrr 0 0 11 s t
+boolean_fields (boolean.Test TestName.Bf s n) = rri8 6 0 s 7 (bits n)
+boolean_fields (boolean.Test TestName.Bt s n) = rri8 6 1 s 7 (bits n)
+boolean_fields (boolean.Choice ChoiceName.Movf r s t) = rrr 3 12 r s t
+boolean_fields (boolean.Choice ChoiceName.Movt r s t) = rrr 3 13 r s t
 
 abbrev pub uncut_fields : Insn → Fields
 uncut_fields (insn.Three i) = three_fields i

@@ -23,10 +23,10 @@ pub fn call(t: u8, s: u8, r: u8, op1: u8, op2: u8) -> Option<Insn>
 {
     let offset = signed(524288, 4 * imm18(t, s, r, op1, op2));
     match t {
-        0 | 4 | 8 | 12 => Some(Insn::Control(Control::Call0(CallName::Call0, offset))),
-        1 | 5 | 9 | 13 => Some(Insn::Control(Control::Call0(CallName::Call4, offset))),
-        2 | 6 | 10 | 14 => Some(Insn::Control(Control::Call0(CallName::Call8, offset))),
-        _ => Some(Insn::Control(Control::Call0(CallName::Call12, offset))),
+        0 | 4 | 8 | 12 => Some(Insn::Control(Control::Call(CallName::Call0, offset))),
+        1 | 5 | 9 | 13 => Some(Insn::Control(Control::Call(CallName::Call4, offset))),
+        2 | 6 | 10 | 14 => Some(Insn::Control(Control::Call(CallName::Call8, offset))),
+        _ => Some(Insn::Control(Control::Call(CallName::Call12, offset))),
     }
 }
 
@@ -44,18 +44,18 @@ pub fn si(t: u8, s: u8, r: u8, op1: u8, op2: u8) -> Option<Insn>
     let far = signed(2048, imm12(r, op1, op2));
     match t {
         0 | 4 | 8 | 12 => Some(Insn::Control(Control::J(signed(131072, imm18(t, s, r, op1, op2))))),
-        1 => Some(Insn::Control(Control::Beqz(ZeroName::Beqz, s, far))),
-        5 => Some(Insn::Control(Control::Beqz(ZeroName::Bnez, s, far))),
-        9 => Some(Insn::Control(Control::Beqz(ZeroName::Bltz, s, far))),
-        13 => Some(Insn::Control(Control::Beqz(ZeroName::Bgez, s, far))),
-        2 => Some(Insn::Control(Control::Beqi(ConstName::Beqi, s, b4const(r), near))),
-        6 => Some(Insn::Control(Control::Beqi(ConstName::Bnei, s, b4const(r), near))),
-        10 => Some(Insn::Control(Control::Beqi(ConstName::Blti, s, b4const(r), near))),
-        14 => Some(Insn::Control(Control::Beqi(ConstName::Bgei, s, b4const(r), near))),
+        1 => Some(Insn::Control(Control::BranchZero(ZeroName::Beqz, s, far))),
+        5 => Some(Insn::Control(Control::BranchZero(ZeroName::Bnez, s, far))),
+        9 => Some(Insn::Control(Control::BranchZero(ZeroName::Bltz, s, far))),
+        13 => Some(Insn::Control(Control::BranchZero(ZeroName::Bgez, s, far))),
+        2 => Some(Insn::Control(Control::BranchConst(ConstName::Beqi, s, b4const(r), near))),
+        6 => Some(Insn::Control(Control::BranchConst(ConstName::Bnei, s, b4const(r), near))),
+        10 => Some(Insn::Control(Control::BranchConst(ConstName::Blti, s, b4const(r), near))),
+        14 => Some(Insn::Control(Control::BranchConst(ConstName::Bgei, s, b4const(r), near))),
         3 => Some(Insn::Control(Control::Entry(s, plain(8 * imm12(r, op1, op2))))),
         7 => match r {
-            0 => Some(Insn::Boolean(Boolean::Bf(TestName::Bf, s, near))),
-            1 => Some(Insn::Boolean(Boolean::Bf(TestName::Bt, s, near))),
+            0 => Some(Insn::Boolean(Boolean::Test(TestName::Bf, s, near))),
+            1 => Some(Insn::Boolean(Boolean::Test(TestName::Bt, s, near))),
             8 => Some(Insn::Control(Control::Loop(
                 LoopName::Loop,
                 s,
@@ -73,8 +73,8 @@ pub fn si(t: u8, s: u8, r: u8, op1: u8, op2: u8) -> Option<Insn>
             ))),
             _ => None,
         },
-        11 => Some(Insn::Control(Control::Bltui(ConstuName::Bltui, s, b4constu(r), near))),
-        15 => Some(Insn::Control(Control::Bltui(ConstuName::Bgeui, s, b4constu(r), near))),
+        11 => Some(Insn::Control(Control::BranchConstu(ConstuName::Bltui, s, b4constu(r), near))),
+        15 => Some(Insn::Control(Control::BranchConstu(ConstuName::Bgeui, s, b4constu(r), near))),
         _ => None,
     }
 }
@@ -91,19 +91,19 @@ pub fn branch(t: u8, s: u8, r: u8, op1: u8, op2: u8) -> Option<Insn>
 {
     let near = signed(128, join_two(op1, op2) as u32);
     Some(Insn::Control(match r {
-        0 => Control::Bnone(BranchName::Bnone, s, t, near),
-        1 => Control::Bnone(BranchName::Beq, s, t, near),
-        2 => Control::Bnone(BranchName::Blt, s, t, near),
-        3 => Control::Bnone(BranchName::Bltu, s, t, near),
-        4 => Control::Bnone(BranchName::Ball, s, t, near),
-        5 => Control::Bnone(BranchName::Bbc, s, t, near),
-        6 | 7 => Control::Bbci(BitName::Bbci, s, plain(join_five(t, r) as u32), near),
-        8 => Control::Bany(OppositeName::Bany, s, t, near),
-        9 => Control::Bany(OppositeName::Bne, s, t, near),
-        10 => Control::Bany(OppositeName::Bge, s, t, near),
-        11 => Control::Bany(OppositeName::Bgeu, s, t, near),
-        12 => Control::Bany(OppositeName::Bnall, s, t, near),
-        13 => Control::Bany(OppositeName::Bbs, s, t, near),
-        _ => Control::Bbci(BitName::Bbsi, s, plain(join_five(t, r) as u32), near),
+        0 => Control::Branch(BranchName::Bnone, s, t, near),
+        1 => Control::Branch(BranchName::Beq, s, t, near),
+        2 => Control::Branch(BranchName::Blt, s, t, near),
+        3 => Control::Branch(BranchName::Bltu, s, t, near),
+        4 => Control::Branch(BranchName::Ball, s, t, near),
+        5 => Control::Branch(BranchName::Bbc, s, t, near),
+        6 | 7 => Control::BranchBit(BitName::Bbci, s, plain(join_five(t, r) as u32), near),
+        8 => Control::BranchNot(OppositeName::Bany, s, t, near),
+        9 => Control::BranchNot(OppositeName::Bne, s, t, near),
+        10 => Control::BranchNot(OppositeName::Bge, s, t, near),
+        11 => Control::BranchNot(OppositeName::Bgeu, s, t, near),
+        12 => Control::BranchNot(OppositeName::Bnall, s, t, near),
+        13 => Control::BranchNot(OppositeName::Bbs, s, t, near),
+        _ => Control::BranchBit(BitName::Bbsi, s, plain(join_five(t, r) as u32), near),
     }))
 }

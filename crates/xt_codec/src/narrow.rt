@@ -6,7 +6,7 @@ ghost use Rattle.xt_isa.specs.Spelling.{spelled_insn};
 
 use crate::immediate::{minus_one_or, narrow_constant, plain};
 use xt_isa::Insn;
-use xt_isa::density::{Density, NarrowName, NarrowRetName, NarrowZeroName};
+use xt_isa::density::{BareName, Density, NarrowName, NarrowZeroName};
 
 /// The opcode map ST2: MOVI.N, BEQZ.N and BNEZ.N.
 #[inline(always)]
@@ -23,12 +23,12 @@ pub fn constant(t: u8, s: u8, r: u8, op1: u8, op2: u8) -> Option<Insn>
             s,
             narrow_constant(r as u32 + 16 * (t as u32 % 8)),
         ))),
-        8..=11 => Some(Insn::Density(Density::Beqz(
+        8..=11 => Some(Insn::Density(Density::BranchZero(
             NarrowZeroName::Beqz,
             s,
             plain(r as u32 + 16 * (t as u32 % 4)),
         ))),
-        _ => Some(Insn::Density(Density::Beqz(
+        _ => Some(Insn::Density(Density::BranchZero(
             NarrowZeroName::Bnez,
             s,
             plain(r as u32 + 16 * (t as u32 % 4)),
@@ -48,11 +48,11 @@ pub fn narrow_system(t: u8, s: u8, r: u8, op1: u8, op2: u8) -> Option<Insn>
 {
     match (r, t, s) {
         (0, _, _) => Some(Insn::Density(Density::Mov(t, s))),
-        (15, 0, 0) => Some(Insn::Density(Density::Ret(NarrowRetName::Ret))),
-        (15, 1, 0) => Some(Insn::Density(Density::Ret(NarrowRetName::Retw))),
+        (15, 0, 0) => Some(Insn::Density(Density::Bare(BareName::Ret))),
+        (15, 1, 0) => Some(Insn::Density(Density::Bare(BareName::Retw))),
         (15, 2, _) => Some(Insn::Density(Density::Break(plain(s as u32)))),
-        (15, 3, 0) => Some(Insn::Density(Density::Ret(NarrowRetName::Nop))),
-        (15, 6, 0) => Some(Insn::Density(Density::Ret(NarrowRetName::Ill))),
+        (15, 3, 0) => Some(Insn::Density(Density::Bare(BareName::Nop))),
+        (15, 6, 0) => Some(Insn::Density(Density::Bare(BareName::Ill))),
         _ => None,
     }
 }
@@ -67,7 +67,7 @@ pub fn load(t: u8, s: u8, r: u8, op1: u8, op2: u8) -> Option<Insn>
     requires op2 { op2 < 16 }
     ensures { result ≡ spelled_insn (record { op0 = 8; t = t; s = s; r = r; op1 = op1; op2 = op2 }) }
 {
-    Some(Insn::Density(Density::L32i(NarrowName::L32i, t, s, plain(4 * r as u32))))
+    Some(Insn::Density(Density::Word(NarrowName::L32i, t, s, plain(4 * r as u32))))
 }
 
 /// S32I.N.
@@ -80,7 +80,7 @@ pub fn store(t: u8, s: u8, r: u8, op1: u8, op2: u8) -> Option<Insn>
     requires op2 { op2 < 16 }
     ensures { result ≡ spelled_insn (record { op0 = 9; t = t; s = s; r = r; op1 = op1; op2 = op2 }) }
 {
-    Some(Insn::Density(Density::L32i(NarrowName::S32i, t, s, plain(4 * r as u32))))
+    Some(Insn::Density(Density::Word(NarrowName::S32i, t, s, plain(4 * r as u32))))
 }
 
 /// ADD.N.

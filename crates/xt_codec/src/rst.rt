@@ -7,11 +7,12 @@ ghost use Rattle.xt_isa.specs.Spelling.{spelled_insn};
 use crate::immediate::{below, join_five, join_two, plain};
 use xt_isa::boolean::{Boolean, ChoiceName, LogicName};
 use xt_isa::memory::{Memory, WindowName};
-use xt_isa::shift::{SextName, Shift, SrlName};
+use xt_isa::shift::{Shift, ShiftRightName, SignedName};
 use xt_isa::special::{can_exchange, can_read, can_write};
 use xt_isa::system::{SpecialName, System, UserName};
 use xt_isa::three::{
-    AddName, AndName, DivideName, MinName, MoveName, Mul16Name, MulHighName, SubName, Three,
+    BitwiseName, DifferenceName, DivideName, MinMaxName, MoveName, Mul16Name, MulHighName, SumName,
+    Three,
 };
 use xt_isa::{Insn, number};
 
@@ -48,7 +49,7 @@ pub fn rst1(t: u8, s: u8, r: u8, op2: u8) -> Option<Insn>
         6 => {
             let number = join_two(s, r);
             if can_exchange(number) {
-                Some(Insn::System(System::Rsr(SpecialName::Xsr, t, number)))
+                Some(Insn::System(System::Special(SpecialName::Xsr, t, number)))
             } else {
                 None
             }
@@ -56,7 +57,7 @@ pub fn rst1(t: u8, s: u8, r: u8, op2: u8) -> Option<Insn>
         8 => Some(Insn::Three(Three::Src(r, s, t))),
         9 => {
             if s == 0 {
-                Some(Insn::Shift(Shift::Srl(SrlName::Srl, r, t)))
+                Some(Insn::Shift(Shift::ShiftRight(ShiftRightName::Srl, r, t)))
             } else {
                 None
             }
@@ -70,13 +71,13 @@ pub fn rst1(t: u8, s: u8, r: u8, op2: u8) -> Option<Insn>
         }
         11 => {
             if s == 0 {
-                Some(Insn::Shift(Shift::Srl(SrlName::Sra, r, t)))
+                Some(Insn::Shift(Shift::ShiftRight(ShiftRightName::Sra, r, t)))
             } else {
                 None
             }
         }
-        12 => Some(Insn::Three(Three::Mul16u(Mul16Name::Mul16u, r, s, t))),
-        13 => Some(Insn::Three(Three::Mul16u(Mul16Name::Mul16s, r, s, t))),
+        12 => Some(Insn::Three(Three::Mul16(Mul16Name::Mul16u, r, s, t))),
+        13 => Some(Insn::Three(Three::Mul16(Mul16Name::Mul16s, r, s, t))),
         _ => None,
     }
 }
@@ -91,18 +92,18 @@ pub fn rst2(t: u8, s: u8, r: u8, op2: u8) -> Option<Insn>
     ensures { result ≡ spelled_insn (record { op0 = 0; t = t; s = s; r = r; op1 = 2; op2 = op2 }) }
 {
     match op2 {
-        0 => Some(Insn::Boolean(Boolean::Andb(LogicName::Andb, r, s, t))),
-        1 => Some(Insn::Boolean(Boolean::Andb(LogicName::Andbc, r, s, t))),
-        2 => Some(Insn::Boolean(Boolean::Andb(LogicName::Orb, r, s, t))),
-        3 => Some(Insn::Boolean(Boolean::Andb(LogicName::Orbc, r, s, t))),
-        4 => Some(Insn::Boolean(Boolean::Andb(LogicName::Xorb, r, s, t))),
+        0 => Some(Insn::Boolean(Boolean::Logic(LogicName::Andb, r, s, t))),
+        1 => Some(Insn::Boolean(Boolean::Logic(LogicName::Andbc, r, s, t))),
+        2 => Some(Insn::Boolean(Boolean::Logic(LogicName::Orb, r, s, t))),
+        3 => Some(Insn::Boolean(Boolean::Logic(LogicName::Orbc, r, s, t))),
+        4 => Some(Insn::Boolean(Boolean::Logic(LogicName::Xorb, r, s, t))),
         8 => Some(Insn::Three(Three::Mull(r, s, t))),
-        10 => Some(Insn::Three(Three::Muluh(MulHighName::Muluh, r, s, t))),
-        11 => Some(Insn::Three(Three::Muluh(MulHighName::Mulsh, r, s, t))),
-        12 => Some(Insn::Three(Three::Quou(DivideName::Quou, r, s, t))),
-        13 => Some(Insn::Three(Three::Quou(DivideName::Quos, r, s, t))),
-        14 => Some(Insn::Three(Three::Quou(DivideName::Remu, r, s, t))),
-        15 => Some(Insn::Three(Three::Quou(DivideName::Rems, r, s, t))),
+        10 => Some(Insn::Three(Three::MulHigh(MulHighName::Muluh, r, s, t))),
+        11 => Some(Insn::Three(Three::MulHigh(MulHighName::Mulsh, r, s, t))),
+        12 => Some(Insn::Three(Three::Divide(DivideName::Quou, r, s, t))),
+        13 => Some(Insn::Three(Three::Divide(DivideName::Quos, r, s, t))),
+        14 => Some(Insn::Three(Three::Divide(DivideName::Remu, r, s, t))),
+        15 => Some(Insn::Three(Three::Divide(DivideName::Rems, r, s, t))),
         _ => None,
     }
 }
@@ -120,7 +121,7 @@ pub fn rst3(t: u8, s: u8, r: u8, op2: u8) -> Option<Insn>
         0 => {
             let number = join_two(s, r);
             if can_read(number) {
-                Some(Insn::System(System::Rsr(SpecialName::Rsr, t, number)))
+                Some(Insn::System(System::Special(SpecialName::Rsr, t, number)))
             } else {
                 None
             }
@@ -128,33 +129,33 @@ pub fn rst3(t: u8, s: u8, r: u8, op2: u8) -> Option<Insn>
         1 => {
             let number = join_two(s, r);
             if can_write(number) {
-                Some(Insn::System(System::Rsr(SpecialName::Wsr, t, number)))
+                Some(Insn::System(System::Special(SpecialName::Wsr, t, number)))
             } else {
                 None
             }
         }
-        2 => Some(Insn::Shift(Shift::Sext(SextName::Sext, r, s, plain(t as u32 + 7)))),
-        3 => Some(Insn::Shift(Shift::Sext(SextName::Clamps, r, s, plain(t as u32 + 7)))),
-        4 => Some(Insn::Three(Three::Min(MinName::Min, r, s, t))),
-        5 => Some(Insn::Three(Three::Min(MinName::Max, r, s, t))),
-        6 => Some(Insn::Three(Three::Min(MinName::Minu, r, s, t))),
-        7 => Some(Insn::Three(Three::Min(MinName::Maxu, r, s, t))),
-        8 => Some(Insn::Three(Three::Moveqz(MoveName::Moveqz, r, s, t))),
-        9 => Some(Insn::Three(Three::Moveqz(MoveName::Movnez, r, s, t))),
-        10 => Some(Insn::Three(Three::Moveqz(MoveName::Movltz, r, s, t))),
-        11 => Some(Insn::Three(Three::Moveqz(MoveName::Movgez, r, s, t))),
-        12 => Some(Insn::Boolean(Boolean::Movf(ChoiceName::Movf, r, s, t))),
-        13 => Some(Insn::Boolean(Boolean::Movf(ChoiceName::Movt, r, s, t))),
+        2 => Some(Insn::Shift(Shift::Signed(SignedName::Sext, r, s, plain(t as u32 + 7)))),
+        3 => Some(Insn::Shift(Shift::Signed(SignedName::Clamps, r, s, plain(t as u32 + 7)))),
+        4 => Some(Insn::Three(Three::MinMax(MinMaxName::Min, r, s, t))),
+        5 => Some(Insn::Three(Three::MinMax(MinMaxName::Max, r, s, t))),
+        6 => Some(Insn::Three(Three::MinMax(MinMaxName::Minu, r, s, t))),
+        7 => Some(Insn::Three(Three::MinMax(MinMaxName::Maxu, r, s, t))),
+        8 => Some(Insn::Three(Three::Move(MoveName::Moveqz, r, s, t))),
+        9 => Some(Insn::Three(Three::Move(MoveName::Movnez, r, s, t))),
+        10 => Some(Insn::Three(Three::Move(MoveName::Movltz, r, s, t))),
+        11 => Some(Insn::Three(Three::Move(MoveName::Movgez, r, s, t))),
+        12 => Some(Insn::Boolean(Boolean::Choice(ChoiceName::Movf, r, s, t))),
+        13 => Some(Insn::Boolean(Boolean::Choice(ChoiceName::Movt, r, s, t))),
         14 => {
             if s == 14 && t == 7 {
-                Some(Insn::System(System::Rur(UserName::Rur, r, number::THREADPTR)))
+                Some(Insn::System(System::User(UserName::Rur, r, number::THREADPTR)))
             } else {
                 None
             }
         }
         15 => {
             if r == 14 && s == 7 {
-                Some(Insn::System(System::Rur(UserName::Wur, t, number::THREADPTR)))
+                Some(Insn::System(System::User(UserName::Wur, t, number::THREADPTR)))
             } else {
                 None
             }
@@ -174,19 +175,19 @@ pub fn rst0(t: u8, s: u8, r: u8, op2: u8) -> Option<Insn>
 {
     match op2 {
         0 => crate::zero::st0(t, s, r),
-        1 => Some(Insn::Three(Three::And(AndName::And, r, s, t))),
-        2 => Some(Insn::Three(Three::And(AndName::Or, r, s, t))),
-        3 => Some(Insn::Three(Three::And(AndName::Xor, r, s, t))),
+        1 => Some(Insn::Three(Three::Bitwise(BitwiseName::And, r, s, t))),
+        2 => Some(Insn::Three(Three::Bitwise(BitwiseName::Or, r, s, t))),
+        3 => Some(Insn::Three(Three::Bitwise(BitwiseName::Xor, r, s, t))),
         4 => crate::zero::st1(t, s, r),
         6 => crate::zero::rt0(t, s, r),
-        8 => Some(Insn::Three(Three::Add(AddName::Add, r, s, t))),
-        9 => Some(Insn::Three(Three::Add(AddName::Addx2, r, s, t))),
-        10 => Some(Insn::Three(Three::Add(AddName::Addx4, r, s, t))),
-        11 => Some(Insn::Three(Three::Add(AddName::Addx8, r, s, t))),
-        12 => Some(Insn::Three(Three::Sub(SubName::Sub, r, s, t))),
-        13 => Some(Insn::Three(Three::Sub(SubName::Subx2, r, s, t))),
-        14 => Some(Insn::Three(Three::Sub(SubName::Subx4, r, s, t))),
-        15 => Some(Insn::Three(Three::Sub(SubName::Subx8, r, s, t))),
+        8 => Some(Insn::Three(Three::Sum(SumName::Add, r, s, t))),
+        9 => Some(Insn::Three(Three::Sum(SumName::Addx2, r, s, t))),
+        10 => Some(Insn::Three(Three::Sum(SumName::Addx4, r, s, t))),
+        11 => Some(Insn::Three(Three::Sum(SumName::Addx8, r, s, t))),
+        12 => Some(Insn::Three(Three::Difference(DifferenceName::Sub, r, s, t))),
+        13 => Some(Insn::Three(Three::Difference(DifferenceName::Subx2, r, s, t))),
+        14 => Some(Insn::Three(Three::Difference(DifferenceName::Subx4, r, s, t))),
+        15 => Some(Insn::Three(Three::Difference(DifferenceName::Subx8, r, s, t))),
         _ => None,
     }
 }
@@ -222,8 +223,8 @@ fn window(t: u8, s: u8, r: u8, op2: u8) -> Option<Insn>
     ensures { result ≡ spelled_insn (record { op0 = 0; t = t; s = s; r = r; op1 = 9; op2 = op2 }) }
 {
     match op2 {
-        0 => Some(Insn::Memory(Memory::L32e(WindowName::L32e, t, s, below(4 * r as u32, 64)))),
-        4 => Some(Insn::Memory(Memory::L32e(WindowName::S32e, t, s, below(4 * r as u32, 64)))),
+        0 => Some(Insn::Memory(Memory::Window(WindowName::L32e, t, s, below(4 * r as u32, 64)))),
+        4 => Some(Insn::Memory(Memory::Window(WindowName::S32e, t, s, below(4 * r as u32, 64)))),
         _ => None,
     }
 }

@@ -12,16 +12,19 @@ use crate::formats::{bits, bri12, call, constant, five, ri16, rri8, rrr, rrrn, s
 use xt_isa::boolean::{Boolean, ChoiceName, EightName, FourName, LogicName, TestName};
 use xt_isa::control::{
     BitName, BranchName, CallName, CallxName, ConstName, ConstuName, Control, LoopName,
-    OppositeName, RetName, ZeroName,
+    OppositeName, ReturnName, ZeroName,
 };
-use xt_isa::density::{Density, NarrowName, NarrowRetName, NarrowZeroName};
+use xt_isa::density::{BareName, Density, NarrowName, NarrowZeroName};
 use xt_isa::memory::{ByteName, HalfName, Memory, WindowName, WordName};
-use xt_isa::shift::{NegName, NsaName, SextName, Shift, SrlName, Ssa8Name, SsrName};
+use xt_isa::shift::{
+    AmountName, ByteAmountName, NormalizeName, Shift, ShiftRightName, SignName, SignedName,
+};
 use xt_isa::system::{
-    BreakName, LevelName, ReturnName, SpecialName, SyncName, System, UserName, WaitName,
+    ExceptionReturnName, LevelName, SpecialName, SyncName, System, TrapName, UserName, WaitName,
 };
 use xt_isa::three::{
-    AddName, AndName, DivideName, MinName, MoveName, Mul16Name, MulHighName, SubName, Three,
+    BitwiseName, DifferenceName, DivideName, MinMaxName, MoveName, Mul16Name, MulHighName, SumName,
+    Three,
 };
 use xt_isa::{Fields, Insn};
 
@@ -30,35 +33,35 @@ fn three_fields(i: Three) -> Fields
     ensures { result ≡ three_fields i }
 {
     match i {
-        Three::And(AndName::And, r, s, t) => rrr(0, 1, r, s, t),
-        Three::And(AndName::Or, r, s, t) => rrr(0, 2, r, s, t),
-        Three::And(AndName::Xor, r, s, t) => rrr(0, 3, r, s, t),
-        Three::Add(AddName::Add, r, s, t) => rrr(0, 8, r, s, t),
-        Three::Add(AddName::Addx2, r, s, t) => rrr(0, 9, r, s, t),
-        Three::Add(AddName::Addx4, r, s, t) => rrr(0, 10, r, s, t),
-        Three::Add(AddName::Addx8, r, s, t) => rrr(0, 11, r, s, t),
-        Three::Sub(SubName::Sub, r, s, t) => rrr(0, 12, r, s, t),
-        Three::Sub(SubName::Subx2, r, s, t) => rrr(0, 13, r, s, t),
-        Three::Sub(SubName::Subx4, r, s, t) => rrr(0, 14, r, s, t),
-        Three::Sub(SubName::Subx8, r, s, t) => rrr(0, 15, r, s, t),
+        Three::Bitwise(BitwiseName::And, r, s, t) => rrr(0, 1, r, s, t),
+        Three::Bitwise(BitwiseName::Or, r, s, t) => rrr(0, 2, r, s, t),
+        Three::Bitwise(BitwiseName::Xor, r, s, t) => rrr(0, 3, r, s, t),
+        Three::Sum(SumName::Add, r, s, t) => rrr(0, 8, r, s, t),
+        Three::Sum(SumName::Addx2, r, s, t) => rrr(0, 9, r, s, t),
+        Three::Sum(SumName::Addx4, r, s, t) => rrr(0, 10, r, s, t),
+        Three::Sum(SumName::Addx8, r, s, t) => rrr(0, 11, r, s, t),
+        Three::Difference(DifferenceName::Sub, r, s, t) => rrr(0, 12, r, s, t),
+        Three::Difference(DifferenceName::Subx2, r, s, t) => rrr(0, 13, r, s, t),
+        Three::Difference(DifferenceName::Subx4, r, s, t) => rrr(0, 14, r, s, t),
+        Three::Difference(DifferenceName::Subx8, r, s, t) => rrr(0, 15, r, s, t),
         Three::Src(r, s, t) => rrr(1, 8, r, s, t),
-        Three::Mul16u(Mul16Name::Mul16u, r, s, t) => rrr(1, 12, r, s, t),
-        Three::Mul16u(Mul16Name::Mul16s, r, s, t) => rrr(1, 13, r, s, t),
+        Three::Mul16(Mul16Name::Mul16u, r, s, t) => rrr(1, 12, r, s, t),
+        Three::Mul16(Mul16Name::Mul16s, r, s, t) => rrr(1, 13, r, s, t),
         Three::Mull(r, s, t) => rrr(2, 8, r, s, t),
-        Three::Muluh(MulHighName::Muluh, r, s, t) => rrr(2, 10, r, s, t),
-        Three::Muluh(MulHighName::Mulsh, r, s, t) => rrr(2, 11, r, s, t),
-        Three::Quou(DivideName::Quou, r, s, t) => rrr(2, 12, r, s, t),
-        Three::Quou(DivideName::Quos, r, s, t) => rrr(2, 13, r, s, t),
-        Three::Quou(DivideName::Remu, r, s, t) => rrr(2, 14, r, s, t),
-        Three::Quou(DivideName::Rems, r, s, t) => rrr(2, 15, r, s, t),
-        Three::Min(MinName::Min, r, s, t) => rrr(3, 4, r, s, t),
-        Three::Min(MinName::Max, r, s, t) => rrr(3, 5, r, s, t),
-        Three::Min(MinName::Minu, r, s, t) => rrr(3, 6, r, s, t),
-        Three::Min(MinName::Maxu, r, s, t) => rrr(3, 7, r, s, t),
-        Three::Moveqz(MoveName::Moveqz, r, s, t) => rrr(3, 8, r, s, t),
-        Three::Moveqz(MoveName::Movnez, r, s, t) => rrr(3, 9, r, s, t),
-        Three::Moveqz(MoveName::Movltz, r, s, t) => rrr(3, 10, r, s, t),
-        Three::Moveqz(MoveName::Movgez, r, s, t) => rrr(3, 11, r, s, t),
+        Three::MulHigh(MulHighName::Muluh, r, s, t) => rrr(2, 10, r, s, t),
+        Three::MulHigh(MulHighName::Mulsh, r, s, t) => rrr(2, 11, r, s, t),
+        Three::Divide(DivideName::Quou, r, s, t) => rrr(2, 12, r, s, t),
+        Three::Divide(DivideName::Quos, r, s, t) => rrr(2, 13, r, s, t),
+        Three::Divide(DivideName::Remu, r, s, t) => rrr(2, 14, r, s, t),
+        Three::Divide(DivideName::Rems, r, s, t) => rrr(2, 15, r, s, t),
+        Three::MinMax(MinMaxName::Min, r, s, t) => rrr(3, 4, r, s, t),
+        Three::MinMax(MinMaxName::Max, r, s, t) => rrr(3, 5, r, s, t),
+        Three::MinMax(MinMaxName::Minu, r, s, t) => rrr(3, 6, r, s, t),
+        Three::MinMax(MinMaxName::Maxu, r, s, t) => rrr(3, 7, r, s, t),
+        Three::Move(MoveName::Moveqz, r, s, t) => rrr(3, 8, r, s, t),
+        Three::Move(MoveName::Movnez, r, s, t) => rrr(3, 9, r, s, t),
+        Three::Move(MoveName::Movltz, r, s, t) => rrr(3, 10, r, s, t),
+        Three::Move(MoveName::Movgez, r, s, t) => rrr(3, 11, r, s, t),
     }
 }
 
@@ -67,24 +70,24 @@ fn shift_fields(i: Shift) -> Fields
     ensures { result ≡ shift_fields i }
 {
     match i {
-        Shift::Neg(NegName::Neg, r, t) => rrr(0, 6, r, 0, t),
-        Shift::Neg(NegName::Abs, r, t) => rrr(0, 6, r, 1, t),
-        Shift::Srl(SrlName::Srl, r, t) => rrr(1, 9, r, 0, t),
-        Shift::Srl(SrlName::Sra, r, t) => rrr(1, 11, r, 0, t),
+        Shift::Sign(SignName::Neg, r, t) => rrr(0, 6, r, 0, t),
+        Shift::Sign(SignName::Abs, r, t) => rrr(0, 6, r, 1, t),
+        Shift::ShiftRight(ShiftRightName::Srl, r, t) => rrr(1, 9, r, 0, t),
+        Shift::ShiftRight(ShiftRightName::Sra, r, t) => rrr(1, 11, r, 0, t),
         Shift::Sll(r, s) => rrr(1, 10, r, s, 0),
         Shift::Slli(r, s, n) => rrr(1, (32 - five(n)) / 16, r, s, 32 - five(n)),
         Shift::Srai(r, t, n) => rrr(1, 2 + five(n) / 16, r, five(n), t),
         Shift::Srli(r, t, n) => rrr(1, 4, r, five(n), t),
         Shift::Extui(r, t, n, m) => rrr(4 + five(n) / 16, five(m) + 15, r, five(n), t),
-        Shift::Sext(SextName::Sext, r, s, n) => rrr(3, 2, r, s, five(n) + 9),
-        Shift::Sext(SextName::Clamps, r, s, n) => rrr(3, 3, r, s, five(n) + 9),
-        Shift::Nsa(NsaName::Nsa, t, s) => rrr(0, 4, 14, s, t),
-        Shift::Nsa(NsaName::Nsau, t, s) => rrr(0, 4, 15, s, t),
+        Shift::Signed(SignedName::Sext, r, s, n) => rrr(3, 2, r, s, five(n) + 9),
+        Shift::Signed(SignedName::Clamps, r, s, n) => rrr(3, 3, r, s, five(n) + 9),
+        Shift::Normalize(NormalizeName::Nsa, t, s) => rrr(0, 4, 14, s, t),
+        Shift::Normalize(NormalizeName::Nsau, t, s) => rrr(0, 4, 15, s, t),
         Shift::Movsp(t, s) => rrr(0, 0, 1, s, t),
-        Shift::Ssr(SsrName::Ssr, s) => rrr(0, 4, 0, s, 0),
-        Shift::Ssr(SsrName::Ssl, s) => rrr(0, 4, 1, s, 0),
-        Shift::Ssa8l(Ssa8Name::Ssa8l, s) => rrr(0, 4, 2, s, 0),
-        Shift::Ssa8l(Ssa8Name::Ssa8b, s) => rrr(0, 4, 3, s, 0),
+        Shift::Amount(AmountName::Ssr, s) => rrr(0, 4, 0, s, 0),
+        Shift::Amount(AmountName::Ssl, s) => rrr(0, 4, 1, s, 0),
+        Shift::ByteAmount(ByteAmountName::Ssa8l, s) => rrr(0, 4, 2, s, 0),
+        Shift::ByteAmount(ByteAmountName::Ssa8b, s) => rrr(0, 4, 3, s, 0),
         Shift::Ssai(n) => rrr(0, 4, 4, five(n), five(n) / 16),
     }
 }
@@ -94,18 +97,18 @@ fn memory_fields(i: Memory) -> Fields
     ensures { result ≡ memory_fields i }
 {
     match i {
-        Memory::L8ui(ByteName::L8ui, t, s, n) => rri8(2, 0, s, t, bits(n)),
-        Memory::L8ui(ByteName::S8i, t, s, n) => rri8(2, 4, s, t, bits(n)),
-        Memory::L16ui(HalfName::L16ui, t, s, n) => rri8(2, 1, s, t, bits(n) / 2),
-        Memory::L16ui(HalfName::L16si, t, s, n) => rri8(2, 9, s, t, bits(n) / 2),
-        Memory::L16ui(HalfName::S16i, t, s, n) => rri8(2, 5, s, t, bits(n) / 2),
-        Memory::L32i(WordName::L32i, t, s, n) => rri8(2, 2, s, t, bits(n) / 4),
-        Memory::L32i(WordName::S32i, t, s, n) => rri8(2, 6, s, t, bits(n) / 4),
-        Memory::L32i(WordName::L32ai, t, s, n) => rri8(2, 11, s, t, bits(n) / 4),
-        Memory::L32i(WordName::S32ri, t, s, n) => rri8(2, 15, s, t, bits(n) / 4),
+        Memory::Byte(ByteName::L8ui, t, s, n) => rri8(2, 0, s, t, bits(n)),
+        Memory::Byte(ByteName::S8i, t, s, n) => rri8(2, 4, s, t, bits(n)),
+        Memory::Half(HalfName::L16ui, t, s, n) => rri8(2, 1, s, t, bits(n) / 2),
+        Memory::Half(HalfName::L16si, t, s, n) => rri8(2, 9, s, t, bits(n) / 2),
+        Memory::Half(HalfName::S16i, t, s, n) => rri8(2, 5, s, t, bits(n) / 2),
+        Memory::Word(WordName::L32i, t, s, n) => rri8(2, 2, s, t, bits(n) / 4),
+        Memory::Word(WordName::S32i, t, s, n) => rri8(2, 6, s, t, bits(n) / 4),
+        Memory::Word(WordName::L32ai, t, s, n) => rri8(2, 11, s, t, bits(n) / 4),
+        Memory::Word(WordName::S32ri, t, s, n) => rri8(2, 15, s, t, bits(n) / 4),
         Memory::S32c1i(t, s, n) => rri8(2, 14, s, t, bits(n) / 4),
-        Memory::L32e(WindowName::L32e, t, s, n) => rrr(9, 0, (bits(n) / 4 % 32) as u8, s, t),
-        Memory::L32e(WindowName::S32e, t, s, n) => rrr(9, 4, (bits(n) / 4 % 32) as u8, s, t),
+        Memory::Window(WindowName::L32e, t, s, n) => rrr(9, 0, (bits(n) / 4 % 32) as u8, s, t),
+        Memory::Window(WindowName::S32e, t, s, n) => rrr(9, 4, (bits(n) / 4 % 32) as u8, s, t),
         Memory::L32r(t, n) => ri16(t, bits(n) / 4),
         Memory::Movi(t, n) => rri8(2, 10, (bits(n) / 256 % 32) as u8, t, bits(n)),
         Memory::Addi(t, s, n) => rri8(2, 12, s, t, bits(n)),
@@ -115,7 +118,7 @@ fn memory_fields(i: Memory) -> Fields
 
 /// BNONE, BEQ, BLT, BLTU, BALL, BBC.
 fn branch_fields(name: BranchName, s: u8, t: u8, n: i32) -> Fields
-    ensures { result ≡ control_fields (control.Bnone name s t n) }
+    ensures { result ≡ control_fields (control.Branch name s t n) }
 {
     match name {
         BranchName::Bnone => rri8(7, 0, s, t, bits(n)),
@@ -129,7 +132,7 @@ fn branch_fields(name: BranchName, s: u8, t: u8, n: i32) -> Fields
 
 /// BANY, BNE, BGE, BGEU, BNALL, BBS.
 fn opposite_fields(name: OppositeName, s: u8, t: u8, n: i32) -> Fields
-    ensures { result ≡ control_fields (control.Bany name s t n) }
+    ensures { result ≡ control_fields (control.BranchNot name s t n) }
 {
     match name {
         OppositeName::Bany => rri8(7, 8, s, t, bits(n)),
@@ -147,31 +150,43 @@ fn control_fields(i: Control) -> Fields
 {
     match i {
         Control::J(n) => call(6, 0, bits(n)),
-        Control::Call0(CallName::Call0, n) => call(5, 0, bits(n) / 4),
-        Control::Call0(CallName::Call4, n) => call(5, 1, bits(n) / 4),
-        Control::Call0(CallName::Call8, n) => call(5, 2, bits(n) / 4),
-        Control::Call0(CallName::Call12, n) => call(5, 3, bits(n) / 4),
-        Control::Ret(RetName::Ret) => rrr(0, 0, 0, 0, 8),
-        Control::Ret(RetName::Retw) => rrr(0, 0, 0, 0, 9),
+        Control::Call(CallName::Call0, n) => call(5, 0, bits(n) / 4),
+        Control::Call(CallName::Call4, n) => call(5, 1, bits(n) / 4),
+        Control::Call(CallName::Call8, n) => call(5, 2, bits(n) / 4),
+        Control::Call(CallName::Call12, n) => call(5, 3, bits(n) / 4),
+        Control::Return(ReturnName::Ret) => rrr(0, 0, 0, 0, 8),
+        Control::Return(ReturnName::Retw) => rrr(0, 0, 0, 0, 9),
         Control::Jx(s) => rrr(0, 0, 0, s, 10),
-        Control::Callx0(CallxName::Callx0, s) => rrr(0, 0, 0, s, 12),
-        Control::Callx0(CallxName::Callx4, s) => rrr(0, 0, 0, s, 13),
-        Control::Callx0(CallxName::Callx8, s) => rrr(0, 0, 0, s, 14),
-        Control::Callx0(CallxName::Callx12, s) => rrr(0, 0, 0, s, 15),
-        Control::Beqz(ZeroName::Beqz, s, n) => bri12(1, s, bits(n)),
-        Control::Beqz(ZeroName::Bnez, s, n) => bri12(5, s, bits(n)),
-        Control::Beqz(ZeroName::Bltz, s, n) => bri12(9, s, bits(n)),
-        Control::Beqz(ZeroName::Bgez, s, n) => bri12(13, s, bits(n)),
-        Control::Beqi(ConstName::Beqi, s, c, n) => rri8(6, constant(c), s, 2, bits(n)),
-        Control::Beqi(ConstName::Bnei, s, c, n) => rri8(6, constant(c), s, 6, bits(n)),
-        Control::Beqi(ConstName::Blti, s, c, n) => rri8(6, constant(c), s, 10, bits(n)),
-        Control::Beqi(ConstName::Bgei, s, c, n) => rri8(6, constant(c), s, 14, bits(n)),
-        Control::Bltui(ConstuName::Bltui, s, c, n) => rri8(6, constant(c), s, 11, bits(n)),
-        Control::Bltui(ConstuName::Bgeui, s, c, n) => rri8(6, constant(c), s, 15, bits(n)),
-        Control::Bnone(name, s, t, n) => branch_fields(name, s, t, n),
-        Control::Bany(name, s, t, n) => opposite_fields(name, s, t, n),
-        Control::Bbci(BitName::Bbci, s, b, n) => rri8(7, 6 + five(b) / 16, s, five(b), bits(n)),
-        Control::Bbci(BitName::Bbsi, s, b, n) => rri8(7, 14 + five(b) / 16, s, five(b), bits(n)),
+        Control::Callx(CallxName::Callx0, s) => rrr(0, 0, 0, s, 12),
+        Control::Callx(CallxName::Callx4, s) => rrr(0, 0, 0, s, 13),
+        Control::Callx(CallxName::Callx8, s) => rrr(0, 0, 0, s, 14),
+        Control::Callx(CallxName::Callx12, s) => rrr(0, 0, 0, s, 15),
+        Control::BranchZero(ZeroName::Beqz, s, n) => bri12(1, s, bits(n)),
+        Control::BranchZero(ZeroName::Bnez, s, n) => bri12(5, s, bits(n)),
+        Control::BranchZero(ZeroName::Bltz, s, n) => bri12(9, s, bits(n)),
+        Control::BranchZero(ZeroName::Bgez, s, n) => bri12(13, s, bits(n)),
+        Control::BranchConst(ConstName::Beqi, s, c, n) => rri8(6, constant(c), s, 2, bits(n)),
+        Control::BranchConst(ConstName::Bnei, s, c, n) => rri8(6, constant(c), s, 6, bits(n)),
+        Control::BranchConst(ConstName::Blti, s, c, n) => rri8(6, constant(c), s, 10, bits(n)),
+        Control::BranchConst(ConstName::Bgei, s, c, n) => rri8(6, constant(c), s, 14, bits(n)),
+        Control::BranchConstu(ConstuName::Bltui, s, c, n) => rri8(6, constant(c), s, 11, bits(n)),
+        Control::BranchConstu(ConstuName::Bgeui, s, c, n) => rri8(6, constant(c), s, 15, bits(n)),
+        Control::Branch(name, s, t, n) => branch_fields(name, s, t, n),
+        Control::BranchNot(name, s, t, n) => opposite_fields(name, s, t, n),
+        Control::BranchBit(BitName::Bbci, s, b, n) => rri8(
+            7,
+            6 + five(b) / 16,
+            s,
+            five(b),
+            bits(n),
+        ),
+        Control::BranchBit(BitName::Bbsi, s, b, n) => rri8(
+            7,
+            14 + five(b) / 16,
+            s,
+            five(b),
+            bits(n),
+        ),
         Control::Entry(s, n) => bri12(3, s, bits(n) / 8),
         Control::Loop(LoopName::Loop, s, n) => rri8(6, 8, s, 7, bits(n)),
         Control::Loop(LoopName::Loopnez, s, n) => rri8(6, 9, s, 7, bits(n)),
@@ -184,30 +199,30 @@ fn system_fields(i: System) -> Fields
     ensures { result ≡ system_fields i }
 {
     match i {
-        System::Ill(SyncName::Ill) => rrr(0, 0, 0, 0, 0),
-        System::Ill(SyncName::Isync) => rrr(0, 0, 2, 0, 0),
-        System::Ill(SyncName::Rsync) => rrr(0, 0, 2, 0, 1),
-        System::Ill(SyncName::Esync) => rrr(0, 0, 2, 0, 2),
-        System::Ill(SyncName::Dsync) => rrr(0, 0, 2, 0, 3),
-        System::Excw(WaitName::Excw) => rrr(0, 0, 2, 0, 8),
-        System::Excw(WaitName::Memw) => rrr(0, 0, 2, 0, 12),
-        System::Excw(WaitName::Extw) => rrr(0, 0, 2, 0, 13),
-        System::Excw(WaitName::Nop) => rrr(0, 0, 2, 0, 15),
-        System::Rfe(ReturnName::Rfe) => rrr(0, 0, 3, 0, 0),
-        System::Rfe(ReturnName::Rfde) => rrr(0, 0, 3, 2, 0),
-        System::Rfe(ReturnName::Rfwo) => rrr(0, 0, 3, 4, 0),
-        System::Rfe(ReturnName::Rfwu) => rrr(0, 0, 3, 5, 0),
+        System::Sync(SyncName::Ill) => rrr(0, 0, 0, 0, 0),
+        System::Sync(SyncName::Isync) => rrr(0, 0, 2, 0, 0),
+        System::Sync(SyncName::Rsync) => rrr(0, 0, 2, 0, 1),
+        System::Sync(SyncName::Esync) => rrr(0, 0, 2, 0, 2),
+        System::Sync(SyncName::Dsync) => rrr(0, 0, 2, 0, 3),
+        System::Wait(WaitName::Excw) => rrr(0, 0, 2, 0, 8),
+        System::Wait(WaitName::Memw) => rrr(0, 0, 2, 0, 12),
+        System::Wait(WaitName::Extw) => rrr(0, 0, 2, 0, 13),
+        System::Wait(WaitName::Nop) => rrr(0, 0, 2, 0, 15),
+        System::ExceptionReturn(ExceptionReturnName::Rfe) => rrr(0, 0, 3, 0, 0),
+        System::ExceptionReturn(ExceptionReturnName::Rfde) => rrr(0, 0, 3, 2, 0),
+        System::ExceptionReturn(ExceptionReturnName::Rfwo) => rrr(0, 0, 3, 4, 0),
+        System::ExceptionReturn(ExceptionReturnName::Rfwu) => rrr(0, 0, 3, 5, 0),
         System::Rfi(n) => rrr(0, 0, 3, five(n), 1),
-        System::Break(BreakName::Break, m, n) => rrr(0, 0, 4, five(m), five(n)),
-        System::Break(BreakName::Syscall, _, _) => rrr(0, 0, 5, 0, 0),
-        System::Rsil(LevelName::Rsil, t, n) => rrr(0, 0, 6, five(n), t),
-        System::Rsil(LevelName::Waiti, _, n) => rrr(0, 0, 7, five(n), 0),
+        System::Trap(TrapName::Break, m, n) => rrr(0, 0, 4, five(m), five(n)),
+        System::Trap(TrapName::Syscall, _, _) => rrr(0, 0, 5, 0, 0),
+        System::Level(LevelName::Rsil, t, n) => rrr(0, 0, 6, five(n), t),
+        System::Level(LevelName::Waiti, _, n) => rrr(0, 0, 7, five(n), 0),
         System::Rotw(n) => rrr(0, 4, 8, 0, five(n)),
-        System::Rsr(SpecialName::Rsr, t, n) => rrr(3, 0, n / 16, n, t),
-        System::Rsr(SpecialName::Wsr, t, n) => rrr(3, 1, n / 16, n, t),
-        System::Rsr(SpecialName::Xsr, t, n) => rrr(1, 6, n / 16, n, t),
-        System::Rur(UserName::Rur, r, _) => rrr(3, 14, r, 14, 7),
-        System::Rur(UserName::Wur, t, _) => rrr(3, 15, 14, 7, t),
+        System::Special(SpecialName::Rsr, t, n) => rrr(3, 0, n / 16, n, t),
+        System::Special(SpecialName::Wsr, t, n) => rrr(3, 1, n / 16, n, t),
+        System::Special(SpecialName::Xsr, t, n) => rrr(1, 6, n / 16, n, t),
+        System::User(UserName::Rur, r, _) => rrr(3, 14, r, 14, 7),
+        System::User(UserName::Wur, t, _) => rrr(3, 15, 14, 7, t),
     }
 }
 
@@ -216,28 +231,28 @@ fn density_fields(i: Density) -> Fields
     ensures { result ≡ density_fields i }
 {
     match i {
-        Density::L32i(NarrowName::L32i, t, s, n) => rrrn(8, (bits(n) / 4 % 32) as u8, s, t),
-        Density::L32i(NarrowName::S32i, t, s, n) => rrrn(9, (bits(n) / 4 % 32) as u8, s, t),
+        Density::Word(NarrowName::L32i, t, s, n) => rrrn(8, (bits(n) / 4 % 32) as u8, s, t),
+        Density::Word(NarrowName::S32i, t, s, n) => rrrn(9, (bits(n) / 4 % 32) as u8, s, t),
         Density::Add(r, s, t) => rrrn(10, r, s, t),
         Density::Addi(r, s, n) => rrrn(11, r, s, small(n)),
         Density::Movi(s, n) => rrrn(12, five(n), s, (bits(n) / 16 % 8) as u8),
-        Density::Beqz(NarrowZeroName::Beqz, s, n) => rrrn(
+        Density::BranchZero(NarrowZeroName::Beqz, s, n) => rrrn(
             12,
             five(n),
             s,
             8 + (bits(n) / 16 % 4) as u8,
         ),
-        Density::Beqz(NarrowZeroName::Bnez, s, n) => rrrn(
+        Density::BranchZero(NarrowZeroName::Bnez, s, n) => rrrn(
             12,
             five(n),
             s,
             12 + (bits(n) / 16 % 4) as u8,
         ),
         Density::Mov(t, s) => rrrn(13, 0, s, t),
-        Density::Ret(NarrowRetName::Ret) => rrrn(13, 15, 0, 0),
-        Density::Ret(NarrowRetName::Retw) => rrrn(13, 15, 0, 1),
-        Density::Ret(NarrowRetName::Nop) => rrrn(13, 15, 0, 3),
-        Density::Ret(NarrowRetName::Ill) => rrrn(13, 15, 0, 6),
+        Density::Bare(BareName::Ret) => rrrn(13, 15, 0, 0),
+        Density::Bare(BareName::Retw) => rrrn(13, 15, 0, 1),
+        Density::Bare(BareName::Nop) => rrrn(13, 15, 0, 3),
+        Density::Bare(BareName::Ill) => rrrn(13, 15, 0, 6),
         Density::Break(n) => rrrn(13, 15, five(n), 2),
     }
 }
@@ -247,19 +262,19 @@ fn boolean_fields(i: Boolean) -> Fields
     ensures { result ≡ boolean_fields i }
 {
     match i {
-        Boolean::Andb(LogicName::Andb, r, s, t) => rrr(2, 0, r, s, t),
-        Boolean::Andb(LogicName::Andbc, r, s, t) => rrr(2, 1, r, s, t),
-        Boolean::Andb(LogicName::Orb, r, s, t) => rrr(2, 2, r, s, t),
-        Boolean::Andb(LogicName::Orbc, r, s, t) => rrr(2, 3, r, s, t),
-        Boolean::Andb(LogicName::Xorb, r, s, t) => rrr(2, 4, r, s, t),
-        Boolean::Any4(FourName::Any4, t, s) => rrr(0, 0, 8, s, t),
-        Boolean::Any4(FourName::All4, t, s) => rrr(0, 0, 9, s, t),
-        Boolean::Any8(EightName::Any8, t, s) => rrr(0, 0, 10, s, t),
-        Boolean::Any8(EightName::All8, t, s) => rrr(0, 0, 11, s, t),
-        Boolean::Bf(TestName::Bf, s, n) => rri8(6, 0, s, 7, bits(n)),
-        Boolean::Bf(TestName::Bt, s, n) => rri8(6, 1, s, 7, bits(n)),
-        Boolean::Movf(ChoiceName::Movf, r, s, t) => rrr(3, 12, r, s, t),
-        Boolean::Movf(ChoiceName::Movt, r, s, t) => rrr(3, 13, r, s, t),
+        Boolean::Logic(LogicName::Andb, r, s, t) => rrr(2, 0, r, s, t),
+        Boolean::Logic(LogicName::Andbc, r, s, t) => rrr(2, 1, r, s, t),
+        Boolean::Logic(LogicName::Orb, r, s, t) => rrr(2, 2, r, s, t),
+        Boolean::Logic(LogicName::Orbc, r, s, t) => rrr(2, 3, r, s, t),
+        Boolean::Logic(LogicName::Xorb, r, s, t) => rrr(2, 4, r, s, t),
+        Boolean::Four(FourName::Any4, t, s) => rrr(0, 0, 8, s, t),
+        Boolean::Four(FourName::All4, t, s) => rrr(0, 0, 9, s, t),
+        Boolean::Eight(EightName::Any8, t, s) => rrr(0, 0, 10, s, t),
+        Boolean::Eight(EightName::All8, t, s) => rrr(0, 0, 11, s, t),
+        Boolean::Test(TestName::Bf, s, n) => rri8(6, 0, s, 7, bits(n)),
+        Boolean::Test(TestName::Bt, s, n) => rri8(6, 1, s, 7, bits(n)),
+        Boolean::Choice(ChoiceName::Movf, r, s, t) => rrr(3, 12, r, s, t),
+        Boolean::Choice(ChoiceName::Movt, r, s, t) => rrr(3, 13, r, s, t),
     }
 }
 

@@ -9,9 +9,9 @@ ghost use Rattle.xt_isa.specs.declared.Insn.TheVariants as insn;
 use crate::immediate::{join_five, plain, signed};
 use xt_isa::Insn;
 use xt_isa::boolean::{Boolean, EightName, FourName};
-use xt_isa::control::{CallxName, Control, RetName};
-use xt_isa::shift::{NegName, NsaName, Shift, Ssa8Name, SsrName};
-use xt_isa::system::{BreakName, LevelName, ReturnName, SyncName, System, WaitName};
+use xt_isa::control::{CallxName, Control, ReturnName};
+use xt_isa::shift::{AmountName, ByteAmountName, NormalizeName, Shift, SignName};
+use xt_isa::system::{ExceptionReturnName, LevelName, SyncName, System, TrapName, WaitName};
 
 /// The opcode map SNM0, with the words of JR and CALLX.
 #[inline(always)]
@@ -21,14 +21,14 @@ fn snm0(t: u8, s: u8) -> Option<Insn>
     ensures { result ≡ spelled_insn (record { op0 = 0; t = t; s = s; r = 0; op1 = 0; op2 = 0 }) }
 {
     match (t, s) {
-        (0, 0) => Some(Insn::System(System::Ill(SyncName::Ill))),
-        (8, 0) => Some(Insn::Control(Control::Ret(RetName::Ret))),
-        (9, 0) => Some(Insn::Control(Control::Ret(RetName::Retw))),
+        (0, 0) => Some(Insn::System(System::Sync(SyncName::Ill))),
+        (8, 0) => Some(Insn::Control(Control::Return(ReturnName::Ret))),
+        (9, 0) => Some(Insn::Control(Control::Return(ReturnName::Retw))),
         (10, _) => Some(Insn::Control(Control::Jx(s))),
-        (12, _) => Some(Insn::Control(Control::Callx0(CallxName::Callx0, s))),
-        (13, _) => Some(Insn::Control(Control::Callx0(CallxName::Callx4, s))),
-        (14, _) => Some(Insn::Control(Control::Callx0(CallxName::Callx8, s))),
-        (15, _) => Some(Insn::Control(Control::Callx0(CallxName::Callx12, s))),
+        (12, _) => Some(Insn::Control(Control::Callx(CallxName::Callx0, s))),
+        (13, _) => Some(Insn::Control(Control::Callx(CallxName::Callx4, s))),
+        (14, _) => Some(Insn::Control(Control::Callx(CallxName::Callx8, s))),
+        (15, _) => Some(Insn::Control(Control::Callx(CallxName::Callx12, s))),
         _ => None,
     }
 }
@@ -44,14 +44,14 @@ fn sync(t: u8, s: u8) -> Option<Insn>
         return None;
     }
     match t {
-        0 => Some(Insn::System(System::Ill(SyncName::Isync))),
-        1 => Some(Insn::System(System::Ill(SyncName::Rsync))),
-        2 => Some(Insn::System(System::Ill(SyncName::Esync))),
-        3 => Some(Insn::System(System::Ill(SyncName::Dsync))),
-        8 => Some(Insn::System(System::Excw(WaitName::Excw))),
-        12 => Some(Insn::System(System::Excw(WaitName::Memw))),
-        13 => Some(Insn::System(System::Excw(WaitName::Extw))),
-        15 => Some(Insn::System(System::Excw(WaitName::Nop))),
+        0 => Some(Insn::System(System::Sync(SyncName::Isync))),
+        1 => Some(Insn::System(System::Sync(SyncName::Rsync))),
+        2 => Some(Insn::System(System::Sync(SyncName::Esync))),
+        3 => Some(Insn::System(System::Sync(SyncName::Dsync))),
+        8 => Some(Insn::System(System::Wait(WaitName::Excw))),
+        12 => Some(Insn::System(System::Wait(WaitName::Memw))),
+        13 => Some(Insn::System(System::Wait(WaitName::Extw))),
+        15 => Some(Insn::System(System::Wait(WaitName::Nop))),
         _ => None,
     }
 }
@@ -65,10 +65,10 @@ fn rfei(t: u8, s: u8) -> Option<Insn>
 {
     match t {
         0 => match s {
-            0 => Some(Insn::System(System::Rfe(ReturnName::Rfe))),
-            2 => Some(Insn::System(System::Rfe(ReturnName::Rfde))),
-            4 => Some(Insn::System(System::Rfe(ReturnName::Rfwo))),
-            5 => Some(Insn::System(System::Rfe(ReturnName::Rfwu))),
+            0 => Some(Insn::System(System::ExceptionReturn(ExceptionReturnName::Rfe))),
+            2 => Some(Insn::System(System::ExceptionReturn(ExceptionReturnName::Rfde))),
+            4 => Some(Insn::System(System::ExceptionReturn(ExceptionReturnName::Rfwo))),
+            5 => Some(Insn::System(System::ExceptionReturn(ExceptionReturnName::Rfwu))),
             _ => None,
         },
         1 => {
@@ -109,26 +109,26 @@ pub fn st0(t: u8, s: u8, r: u8) -> Option<Insn>
         1 => Some(Insn::Shift(Shift::Movsp(t, s))),
         2 => sync(t, s),
         3 => rfei(t, s),
-        4 => Some(Insn::System(System::Break(BreakName::Break, plain(s as u32), plain(t as u32)))),
+        4 => Some(Insn::System(System::Trap(TrapName::Break, plain(s as u32), plain(t as u32)))),
         5 => {
             if t == 0 && s == 0 {
-                Some(Insn::System(System::Break(BreakName::Syscall, 0, 0)))
+                Some(Insn::System(System::Trap(TrapName::Syscall, 0, 0)))
             } else {
                 None
             }
         }
-        6 => Some(Insn::System(System::Rsil(LevelName::Rsil, t, plain(s as u32)))),
+        6 => Some(Insn::System(System::Level(LevelName::Rsil, t, plain(s as u32)))),
         7 => {
             if t == 0 {
-                Some(Insn::System(System::Rsil(LevelName::Waiti, 0, plain(s as u32))))
+                Some(Insn::System(System::Level(LevelName::Waiti, 0, plain(s as u32))))
             } else {
                 None
             }
         }
-        8 => group(4, s, Boolean::Any4(FourName::Any4, t, s)),
-        9 => group(4, s, Boolean::Any4(FourName::All4, t, s)),
-        10 => group(8, s, Boolean::Any8(EightName::Any8, t, s)),
-        11 => group(8, s, Boolean::Any8(EightName::All8, t, s)),
+        8 => group(4, s, Boolean::Four(FourName::Any4, t, s)),
+        9 => group(4, s, Boolean::Four(FourName::All4, t, s)),
+        10 => group(8, s, Boolean::Eight(EightName::Any8, t, s)),
+        11 => group(8, s, Boolean::Eight(EightName::All8, t, s)),
         _ => None,
     }
 }
@@ -142,10 +142,10 @@ pub fn st1(t: u8, s: u8, r: u8) -> Option<Insn>
     ensures { result ≡ spelled_insn (record { op0 = 0; t = t; s = s; r = r; op1 = 0; op2 = 4 }) }
 {
     match (r, t) {
-        (0, 0) => Some(Insn::Shift(Shift::Ssr(SsrName::Ssr, s))),
-        (1, 0) => Some(Insn::Shift(Shift::Ssr(SsrName::Ssl, s))),
-        (2, 0) => Some(Insn::Shift(Shift::Ssa8l(Ssa8Name::Ssa8l, s))),
-        (3, 0) => Some(Insn::Shift(Shift::Ssa8l(Ssa8Name::Ssa8b, s))),
+        (0, 0) => Some(Insn::Shift(Shift::Amount(AmountName::Ssr, s))),
+        (1, 0) => Some(Insn::Shift(Shift::Amount(AmountName::Ssl, s))),
+        (2, 0) => Some(Insn::Shift(Shift::ByteAmount(ByteAmountName::Ssa8l, s))),
+        (3, 0) => Some(Insn::Shift(Shift::ByteAmount(ByteAmountName::Ssa8b, s))),
         (4, 0 | 1) => Some(Insn::Shift(Shift::Ssai(plain(join_five(s, t) as u32)))),
         (8, _) => {
             if s == 0 {
@@ -154,8 +154,8 @@ pub fn st1(t: u8, s: u8, r: u8) -> Option<Insn>
                 None
             }
         }
-        (14, _) => Some(Insn::Shift(Shift::Nsa(NsaName::Nsa, t, s))),
-        (15, _) => Some(Insn::Shift(Shift::Nsa(NsaName::Nsau, t, s))),
+        (14, _) => Some(Insn::Shift(Shift::Normalize(NormalizeName::Nsa, t, s))),
+        (15, _) => Some(Insn::Shift(Shift::Normalize(NormalizeName::Nsau, t, s))),
         _ => None,
     }
 }
@@ -169,8 +169,8 @@ pub fn rt0(t: u8, s: u8, r: u8) -> Option<Insn>
     ensures { result ≡ spelled_insn (record { op0 = 0; t = t; s = s; r = r; op1 = 0; op2 = 6 }) }
 {
     match s {
-        0 => Some(Insn::Shift(Shift::Neg(NegName::Neg, r, t))),
-        1 => Some(Insn::Shift(Shift::Neg(NegName::Abs, r, t))),
+        0 => Some(Insn::Shift(Shift::Sign(SignName::Neg, r, t))),
+        1 => Some(Insn::Shift(Shift::Sign(SignName::Abs, r, t))),
         _ => None,
     }
 }

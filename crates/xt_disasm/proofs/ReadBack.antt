@@ -135,39 +135,39 @@ remade p pc = option_map (λ arguments. parts_in (mnemonic_in p) (pos pc) argume
 
 two_back : (name : Two) (a b pc : ℕ) → remade (parts.Two name (a, b)) pc ≡ Some (Ok (parts.Two name (a, b)))
 unfolding parts_in operands shapes_of
-two_back (two.Neg name) a b pc = refl
-two_back (two.Srl name) a b pc = refl
+two_back (two.Sign name) a b pc = refl
+two_back (two.ShiftRight name) a b pc = refl
 two_back two.Sll a b pc = refl
-two_back (two.Nsa name) a b pc = refl
+two_back (two.Normalize name) a b pc = refl
 two_back two.Movsp a b pc = refl
 two_back two.Mov a b pc = refl
 two_back two.MovNarrow a b pc = refl
-two_back (two.Any4 name) a b pc = refl
-two_back (two.Any8 name) a b pc = refl
+two_back (two.Four name) a b pc = refl
+two_back (two.Eight name) a b pc = refl
 
 three_back : (name : Three) (r s t pc : ℕ) → remade (parts.Three name (r, s, t)) pc ≡ Some (Ok (parts.Three name (r, s, t)))
 unfolding parts_in operands shapes_of
-three_back (triple.And name) r s t pc = refl
-three_back (triple.Add name) r s t pc = refl
-three_back (triple.Sub name) r s t pc = refl
+three_back (triple.Bitwise name) r s t pc = refl
+three_back (triple.Sum name) r s t pc = refl
+three_back (triple.Difference name) r s t pc = refl
 three_back triple.Src r s t pc = refl
-three_back (triple.Mul16u name) r s t pc = refl
+three_back (triple.Mul16 name) r s t pc = refl
 three_back triple.Mull r s t pc = refl
-three_back (triple.Muluh name) r s t pc = refl
-three_back (triple.Quou name) r s t pc = refl
-three_back (triple.Min name) r s t pc = refl
-three_back (triple.Moveqz name) r s t pc = refl
+three_back (triple.MulHigh name) r s t pc = refl
+three_back (triple.Divide name) r s t pc = refl
+three_back (triple.MinMax name) r s t pc = refl
+three_back (triple.Move name) r s t pc = refl
 three_back triple.AddNarrow r s t pc = refl
-three_back (triple.Andb name) r s t pc = refl
-three_back (triple.Movf name) r s t pc = refl
+three_back (triple.Logic name) r s t pc = refl
+three_back (triple.Choice name) r s t pc = refl
 
 -- the offset of a branch or a loop, with its register
 branch_back : (name : OneAndTarget) (s : ℕ) (d : ℤ) (pc : ℕ) → offset_from (pos (pc + 4)) (pos (address_from (pc + 4) d)) ≡ Ok d → remade (parts.OneAndTarget name (s, d)) pc ≡ Some (Ok (parts.OneAndTarget name (s, d)))
 unfolding parts_in operands shapes_of jump_target
-branch_back (one_target.Beqz name) s d pc e = ap (λ a. Some (and_then (and_then a (λ n. Ok (s, n))) (λ o. Ok (parts.OneAndTarget (one_target.Beqz name) o)))) e
+branch_back (one_target.BranchZero name) s d pc e = ap (λ a. Some (and_then (and_then a (λ n. Ok (s, n))) (λ o. Ok (parts.OneAndTarget (one_target.BranchZero name) o)))) e
 branch_back (one_target.Loop name) s d pc e = ap (λ a. Some (and_then (and_then a (λ n. Ok (s, n))) (λ o. Ok (parts.OneAndTarget (one_target.Loop name) o)))) e
-branch_back (one_target.BeqzNarrow name) s d pc e = ap (λ a. Some (and_then (and_then a (λ n. Ok (s, n))) (λ o. Ok (parts.OneAndTarget (one_target.BeqzNarrow name) o)))) e
-branch_back (one_target.Bf name) s d pc e = ap (λ a. Some (and_then (and_then a (λ n. Ok (s, n))) (λ o. Ok (parts.OneAndTarget (one_target.Bf name) o)))) e
+branch_back (one_target.BranchZeroNarrow name) s d pc e = ap (λ a. Some (and_then (and_then a (λ n. Ok (s, n))) (λ o. Ok (parts.OneAndTarget (one_target.BranchZeroNarrow name) o)))) e
+branch_back (one_target.Test name) s d pc e = ap (λ a. Some (and_then (and_then a (λ n. Ok (s, n))) (λ o. Ok (parts.OneAndTarget (one_target.Test name) o)))) e
 
 pub parts_back : (p : Parts) (pc : ℕ) → 1048576 ≤ pc → pc + 1048576 ≤ 4294967296 → fits p ≡ true → remade p pc ≡ Some (Ok p)
 unfolding parts_in operands shapes_of jump_target call_target literal_target
@@ -186,10 +186,10 @@ parts_back (parts.Extui (r, t, n, w)) pc least most h =
     let each = and_parts (in_word n) (in_word w) h in
     ap (λ a. Some (and_then (and_then a (λ m. and_then (offset_from (pos 0) w) (λ k. Ok (r, t, m, k)))) (λ o. Ok (parts.Extui o)))) (counted_zero n (word_is n each.0))
     ∙ ap (λ a. Some (and_then (and_then a (λ k. Ok (r, t, n, k))) (λ o. Ok (parts.Extui o)))) (counted_zero w (word_is w each.1))
-parts_back (parts.OneAndSpecial (one_special.Rsr name) (t, n)) pc least most h =
-    ap (λ o. option_map (λ arguments. parts_in (mnemonic.OneAndSpecial (one_special.Rsr name)) (pos pc) arguments) (all_known (Some (argument.Register t) ∷ option_map argument.Special o ∷ []))) (all_named (special_access name) n h)
-parts_back (parts.OneAndSpecial (one_special.Rur name) (t, n)) pc least most h =
-    ap (λ o. option_map (λ arguments. parts_in (mnemonic.OneAndSpecial (one_special.Rur name)) (pos pc) arguments) (all_known (Some (argument.Register t) ∷ option_map argument.Special o ∷ []))) (all_named User n h)
+parts_back (parts.OneAndSpecial (one_special.Special name) (t, n)) pc least most h =
+    ap (λ o. option_map (λ arguments. parts_in (mnemonic.OneAndSpecial (one_special.Special name)) (pos pc) arguments) (all_known (Some (argument.Register t) ∷ option_map argument.Special o ∷ []))) (all_named (special_access name) n h)
+parts_back (parts.OneAndSpecial (one_special.User name) (t, n)) pc least most h =
+    ap (λ o. option_map (λ arguments. parts_in (mnemonic.OneAndSpecial (one_special.User name)) (pos pc) arguments) (all_known (Some (argument.Register t) ∷ option_map argument.Special o ∷ []))) (all_named User n h)
 parts_back (parts.Jump d) pc least most h = ap (λ a. Some (and_then a (λ d. Ok (parts.Jump d)))) (counted_back (pc + 4) d (omega arith) (omega arith) h)
 parts_back (parts.Call name d) pc least most h = ap (λ a. Some (and_then a (λ d. Ok (parts.Call name d)))) (call_back (pc / 4 * 4 + 4) d (omega arith) (omega arith) (omega arith) h)
 parts_back (parts.Literal (t, d)) pc least most h = ap (λ a. Some (and_then (and_then a (λ n. Ok (t, n))) (λ o. Ok (parts.Literal o)))) (literal_back ((pc + 3) / 4 * 4) d (omega arith) (omega arith) (omega arith) h)

@@ -61,24 +61,24 @@ literal_target pc offset = Target (literal_address pc offset)
 
 -- a special or user register, as a mnemonic names it
 abbrev pub special : OneAndSpecial → ℕ → Operand
-special (one_special.Rsr name) n = Special (special_access name) n
-special (one_special.Rur name) n = Special User n
+special (one_special.Special name) n = Special (special_access name) n
+special (one_special.User name) n = Special User n
 
 -- ---- the registers of a mnemonic, each of its kind
 
 abbrev pub two_registers : Two → ℕ → ℕ → List Operand
-two_registers (two.Any4 name) t s = Boolean t ∷ Boolean s ∷ []
-two_registers (two.Any8 name) t s = Boolean t ∷ Boolean s ∷ []
+two_registers (two.Four name) t s = Boolean t ∷ Boolean s ∷ []
+two_registers (two.Eight name) t s = Boolean t ∷ Boolean s ∷ []
 two_registers name a b = Register a ∷ Register b ∷ []
 
 abbrev pub three_registers : Three → ℕ → ℕ → ℕ → List Operand
-three_registers (triple.Andb name) r s t = Boolean r ∷ Boolean s ∷ Boolean t ∷ []
-three_registers (triple.Movf name) r s t = Register r ∷ Register s ∷ Boolean t ∷ []
+three_registers (triple.Logic name) r s t = Boolean r ∷ Boolean s ∷ Boolean t ∷ []
+three_registers (triple.Choice name) r s t = Register r ∷ Register s ∷ Boolean t ∷ []
 three_registers name r s t = Register r ∷ Register s ∷ Register t ∷ []
 
 -- the register that stands before a target
 abbrev pub tested_register : OneAndTarget → ℕ → Operand
-tested_register (one_target.Bf name) s = Boolean s
+tested_register (one_target.Test name) s = Boolean s
 tested_register name s = Register s
 
 -- ---- the operands

@@ -52,10 +52,10 @@ fn special(name: OneAndSpecial, number: u8) -> Operand
     ensures { result ≡ special name number }
 {
     match name {
-        OneAndSpecial::Rsr(SpecialName::Rsr) => Special(Access::Read, number),
-        OneAndSpecial::Rsr(SpecialName::Wsr) => Special(Access::Write, number),
-        OneAndSpecial::Rsr(SpecialName::Xsr) => Special(Access::Exchange, number),
-        OneAndSpecial::Rur(_) => Special(Access::User, number),
+        OneAndSpecial::Special(SpecialName::Rsr) => Special(Access::Read, number),
+        OneAndSpecial::Special(SpecialName::Wsr) => Special(Access::Write, number),
+        OneAndSpecial::Special(SpecialName::Xsr) => Special(Access::Exchange, number),
+        OneAndSpecial::User(_) => Special(Access::User, number),
     }
 }
 
@@ -64,7 +64,7 @@ fn two_registers(name: Two, a: u8, b: u8) -> [Operand; 2]
     ensures { result ≡ two_registers name a b }
 {
     match name {
-        Two::Any4(_) | Two::Any8(_) => [Boolean(a), Boolean(b)],
+        Two::Four(_) | Two::Eight(_) => [Boolean(a), Boolean(b)],
         _ => [Register(a), Register(b)],
     }
 }
@@ -74,8 +74,8 @@ fn three_registers(name: Three, r: u8, s: u8, t: u8) -> [Operand; 3]
     ensures { result ≡ three_registers name r s t }
 {
     match name {
-        Three::Andb(_) => [Boolean(r), Boolean(s), Boolean(t)],
-        Three::Movf(_) => [Register(r), Register(s), Boolean(t)],
+        Three::Logic(_) => [Boolean(r), Boolean(s), Boolean(t)],
+        Three::Choice(_) => [Register(r), Register(s), Boolean(t)],
         _ => [Register(r), Register(s), Register(t)],
     }
 }
@@ -85,7 +85,7 @@ fn tested_register(name: OneAndTarget, s: u8) -> Operand
     ensures { result ≡ tested_register name s }
 {
     match name {
-        OneAndTarget::Bf(_) => Boolean(s),
+        OneAndTarget::Test(_) => Boolean(s),
         _ => Register(s),
     }
 }

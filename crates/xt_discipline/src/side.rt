@@ -22,7 +22,7 @@ use xt_codec::{Fetch, instruction_at};
 use xt_fetch::code_three;
 use xt_frames::{Breach, Frames, HandlerPhase, ends_nested, is_nesting};
 use xt_isa::Insn;
-use xt_isa::system::{ReturnName, System};
+use xt_isa::system::{ExceptionReturnName, System};
 use xt_map::{Access, Constants, Kind};
 use xt_trace::{StepKind, StepRecord};
 
@@ -81,7 +81,7 @@ fn ends_stretch(insn: Insn) -> bool
 {
     matches!(
         insn,
-        Insn::System(System::Rfe(ReturnName::Rfwo | ReturnName::Rfwu))
+        Insn::System(System::ExceptionReturn(ExceptionReturnName::Rfwo | ExceptionReturnName::Rfwu))
     )
 }
 

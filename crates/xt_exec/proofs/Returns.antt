@@ -3,9 +3,9 @@ use Rattle.std.proofs.Common.{◌≡◌, ◌≢◌, ℕ, Bool, true, false, ◌|
 use Rattle.xt_isa.specs.declared.Insn.{Insn}
 use Rattle.xt_isa.specs.declared.Insn.TheVariants as insn
 use Rattle.xt_isa.specs.declared.control.Control.TheVariants as control
-use Rattle.xt_isa.specs.declared.control.RetName.TheVariants as RetName
+use Rattle.xt_isa.specs.declared.control.ReturnName.TheVariants as ReturnName
 use Rattle.xt_isa.specs.declared.density.Density.TheVariants as density
-use Rattle.xt_isa.specs.declared.density.NarrowRetName.TheVariants as NarrowRetName
+use Rattle.xt_isa.specs.declared.density.BareName.TheVariants as BareName
 use Rattle.xt_special.specs.Control.{Control}
 use Rattle.xt_window.specs.declared.windows.Return.TheVariants.{Returned, Under, Bad}
 use Rattle.xt_window.specs.Ring.{visible, bit}
@@ -62,13 +62,13 @@ legal_return s e =
 
 legal_insn : (i : Insn) (s : State) → IsReturn i → is_illegal i s ≡ false → illegal_return s ≡ false
 unfolding is_illegal
-legal_insn i s (inl e) h = let z : is_illegal (insn.Control (control.Ret RetName.Retw)) s ≡ false = rw e at h in z
-legal_insn i s (inr e) h = let z : is_illegal (insn.Density (density.Ret NarrowRetName.Retw)) s ≡ false = rw e at h in z
+legal_insn i s (inl e) h = let z : is_illegal (insn.Control (control.Return ReturnName.Retw)) s ≡ false = rw e at h in z
+legal_insn i s (inr e) h = let z : is_illegal (insn.Density (density.Bare BareName.Retw)) s ≡ false = rw e at h in z
 
 pub return_value : (code : ℕ → ℕ) (i : Insn) (f : ℕ → ℕ) (c : Control) (a0 : ℕ) → IsReturn i → outcome_at code i f c ≡ Windowed (Returns a0) → f 0 ≡ a0
 unfolding outcome control_outcome density_outcome reads
-return_value code i f c a0 (inl e) q = let z : outcome_at code (insn.Control (control.Ret RetName.Retw)) f c ≡ Windowed (Returns a0) = rw e at q in cc
-return_value code i f c a0 (inr e) q = let z : outcome_at code (insn.Density (density.Ret NarrowRetName.Retw)) f c ≡ Windowed (Returns a0) = rw e at q in cc
+return_value code i f c a0 (inl e) q = let z : outcome_at code (insn.Control (control.Return ReturnName.Retw)) f c ≡ Windowed (Returns a0) = rw e at q in cc
+return_value code i f c a0 (inr e) q = let z : outcome_at code (insn.Density (density.Bare BareName.Retw)) f c ≡ Windowed (Returns a0) = rw e at q in cc
 
 back : (code : ℕ → ℕ) (i : Insn) (s : State) → is_illegal i s ≡ false → (o : Outcome) → outcome_at code i (visible s.regs s.base) s.control ≡ o → Fits i o → OutcomeGoesBack o s
 back code i s legal (Windowed (Returns a0)) q f =

@@ -23,9 +23,9 @@ use Rattle.std.specs.Prelude.{◌||◌, not, nat_lt, if◌then◌else◌, Option
 use Rattle.xt_isa.specs.declared.Insn.{Insn}
 use Rattle.xt_isa.specs.declared.Insn.TheVariants as insn
 use Rattle.xt_isa.specs.declared.control.Control.TheVariants as control
-use Rattle.xt_isa.specs.declared.control.RetName.TheVariants as RetName
+use Rattle.xt_isa.specs.declared.control.ReturnName.TheVariants as ReturnName
 use Rattle.xt_isa.specs.declared.density.Density.TheVariants as density
-use Rattle.xt_isa.specs.declared.density.NarrowRetName.TheVariants as NarrowRetName
+use Rattle.xt_isa.specs.declared.density.BareName.TheVariants as BareName
 use Rattle.xt_map.specs.declared.access.Access.{Access}
 use Rattle.xt_special.specs.declared.ps.Ps.{Ps}
 use Rattle.xt_special.specs.Numbers as number
@@ -221,8 +221,8 @@ illegal_return s =
 unfoldable pub is_illegal : Insn → State → Bool
 is_illegal (insn.Control (control.Entry number size)) s =
     nat_lt 3 number || not (has_windows s.control.ps)
-is_illegal (insn.Control (control.Ret RetName.Retw)) s = illegal_return s
-is_illegal (insn.Density (density.Ret NarrowRetName.Retw)) s = illegal_return s
+is_illegal (insn.Control (control.Return ReturnName.Retw)) s = illegal_return s
+is_illegal (insn.Density (density.Bare BareName.Retw)) s = illegal_return s
 is_illegal _ s = false
 
 abbrev pub outcome_turn : Outcome → ℕ → State → Planned

@@ -14,8 +14,8 @@ ghost use Rattle.xt_exec.specs.Steps.{OutcomeGoesBack, WritesRegister, turn_of};
 use crate::plans::{Effect, Pending, Plan};
 use crate::regs::Regs;
 use xt_isa::Insn;
-use xt_isa::control::{Control, RetName};
-use xt_isa::density::{Density, NarrowRetName};
+use xt_isa::control::{Control, ReturnName};
+use xt_isa::density::{BareName, Density};
 use xt_map::{Access, Constants};
 use xt_rows::settling::special_value;
 use xt_rows::{
@@ -48,8 +48,8 @@ impl<W: Windows> Regs<W> {
     {
         match i {
             Insn::Control(Control::Entry(number, _)) => number > 3 || !self.has_windows(),
-            Insn::Control(Control::Ret(RetName::Retw)) => self.is_illegal_return(),
-            Insn::Density(Density::Ret(NarrowRetName::Retw)) => self.is_illegal_return(),
+            Insn::Control(Control::Return(ReturnName::Retw)) => self.is_illegal_return(),
+            Insn::Density(Density::Bare(BareName::Retw)) => self.is_illegal_return(),
             _ => false,
         }
     }

@@ -7,7 +7,7 @@ use Rattle.std.specs.Prelude.{◌++◌, length, take, drop, find, is_some, optio
 use Rattle.std.specs.Option.{option_and_then, option_map_or}
 use Rattle.xt_isa.specs.declared.Insn.{Insn}
 use Rattle.xt_isa.specs.declared.system.SyncName.TheVariants.{Ill}
-use Rattle.xt_isa.specs.declared.density.NarrowRetName.TheVariants.{Nop}
+use Rattle.xt_isa.specs.declared.density.BareName.TheVariants.{Nop}
 use Rattle.xt_map.specs.Memory.{little_endian}
 use Rattle.xt_map.specs.declared.segment.Segment.{Segment}
 use Rattle.xt_names.specs.declared.mnemonic.Number.{Number}
@@ -29,11 +29,11 @@ use Rattle.xt_disasm.specs.Operands.{call_address, jump_address, literal_address
 -- RET, RETW, RFE, RFDE, RFWO, RFWU, ILL, RET.N, RETW.N and ILL.N, among the instructions without
 -- operands
 abbrev pub ends_plain : Plain → Bool
-ends_plain (plain.Ret name) = true
-ends_plain (plain.Rfe name) = true
-ends_plain (plain.Ill Ill) = true
-ends_plain (plain.RetNarrow Nop) = false
-ends_plain (plain.RetNarrow name) = true
+ends_plain (plain.Return name) = true
+ends_plain (plain.ExceptionReturn name) = true
+ends_plain (plain.Sync Ill) = true
+ends_plain (plain.Bare Nop) = false
+ends_plain (plain.Bare name) = true
 ends_plain name = false
 
 abbrev pub ends_one : One → Bool
@@ -116,7 +116,7 @@ fate_within p r a next =
 
 abbrev pub fate_of : Parts → ℕ → ℕ → ℕ → Fate
 fate_of (parts.One one.Jx s) r a next = if s == r then Goes else Ends
-fate_of (parts.One (one.Callx0 name) s) r a next = if s == r then Goes else Ends
+fate_of (parts.One (one.Callx name) s) r a next = if s == r then Goes else Ends
 fate_of p r a next = fate_within p r a next
 
 abbrev pub fate_at : List Segment → ℕ → ℕ → Fate

@@ -59,7 +59,7 @@ fn fate_of(parts: Parts, register: u8, at: u32, next: u32) -> Fate
     ensures { result ≡ fate_of parts register at next }
 {
     match parts {
-        Parts::One(One::Jx | One::Callx0(_), s) => {
+        Parts::One(One::Jx | One::Callx(_), s) => {
             if s == register {
                 Fate::Goes
             } else {

@@ -5,7 +5,7 @@ ghost use Rattle.std.specs.Prelude.{◌≡◌};
 ghost use Rattle.xt_flow.specs.Following.{code_from, ends_flow, ends_number, ends_one, ends_plain, has_code, literal_of, target_of};
 
 use xt_disasm::{call_address, is_code, jump_address, literal_address};
-use xt_isa::density::NarrowRetName;
+use xt_isa::density::BareName;
 use xt_isa::system::SyncName;
 use xt_map::Segment;
 use xt_names::{Number, One, Parts, Plain};
@@ -35,9 +35,9 @@ fn ends_plain(name: Plain) -> bool
     ensures { result ≡ ends_plain name }
 {
     match name {
-        Plain::Ret(_) | Plain::Rfe(_) | Plain::Ill(SyncName::Ill) => true,
-        Plain::RetNarrow(NarrowRetName::Nop) => false,
-        Plain::RetNarrow(_) => true,
+        Plain::Return(_) | Plain::ExceptionReturn(_) | Plain::Sync(SyncName::Ill) => true,
+        Plain::Bare(BareName::Nop) => false,
+        Plain::Bare(_) => true,
         _ => false,
     }
 }

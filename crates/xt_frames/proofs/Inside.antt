@@ -44,8 +44,8 @@ small n e = ltb-true n 16 e
 -- the visible register that WSR or XSR reads is there
 pub moved_range : (i : Insn) (t n : ℕ) → in_range i ≡ true → moved_to i ≡ Some (t, n) → t < 16
 unfolding moved_to
-moved_range (insn.System (system.Rsr SpecialName.Wsr s m)) t n ok e = let same : s ≡ t = ap (λ (o : Option (ℕ × ℕ)). (unwrap_or o (0, 0)).0) e in subst (λ x. x < 16) same (small s (and_parts _ _ ok).0)
-moved_range (insn.System (system.Rsr SpecialName.Xsr s m)) t n ok e = let same : s ≡ t = ap (λ (o : Option (ℕ × ℕ)). (unwrap_or o (0, 0)).0) e in subst (λ x. x < 16) same (small s (and_parts _ _ ok).0)
+moved_range (insn.System (system.Special SpecialName.Wsr s m)) t n ok e = let same : s ≡ t = ap (λ (o : Option (ℕ × ℕ)). (unwrap_or o (0, 0)).0) e in subst (λ x. x < 16) same (small s (and_parts _ _ ok).0)
+moved_range (insn.System (system.Special SpecialName.Xsr s m)) t n ok e = let same : s ≡ t = ap (λ (o : Option (ℕ × ℕ)). (unwrap_or o (0, 0)).0) e in subst (λ x. x < 16) same (small s (and_parts _ _ ok).0)
 moved_range _ t n ok e = absurd cc
 
 -- ---- where nothing begins, it does not matter whether the record is nested

@@ -8,7 +8,7 @@ use Rattle.std.specs.Prelude.{ℕ, Bool, true, false, if◌then◌else◌}
 use Rattle.xt_isa.specs.declared.Insn.{Insn}
 use Rattle.xt_isa.specs.declared.Insn.TheVariants as insn
 use Rattle.xt_isa.specs.declared.system.System.TheVariants as system
-use Rattle.xt_isa.specs.declared.system.ReturnName.TheVariants as ReturnName
+use Rattle.xt_isa.specs.declared.system.ExceptionReturnName.TheVariants as ExceptionReturnName
 use Rattle.xt_trace.specs.declared.record.StepKind.{StepKind}
 use Rattle.xt_trace.specs.declared.record.StepKind.TheVariants as kind
 use Rattle.xt_trace.specs.declared.record.StepRecord.{StepRecord}
@@ -18,8 +18,8 @@ use Rattle.xt_frames.specs.declared.kinds.HandlerPhase.TheVariants.{Outside, InH
 use Rattle.xt_frames.specs.Nesting.{ends_nested, is_nesting}
 
 unfoldable pub ends_stretch : Insn → Bool
-ends_stretch (insn.System (system.Rfe ReturnName.Rfwo)) = true
-ends_stretch (insn.System (system.Rfe ReturnName.Rfwu)) = true
+ends_stretch (insn.System (system.ExceptionReturn ExceptionReturnName.Rfwo)) = true
+ends_stretch (insn.System (system.ExceptionReturn ExceptionReturnName.Rfwu)) = true
 ends_stretch _ = false
 
 abbrev pub fetched_ends : Fetched → Bool

@@ -29,7 +29,7 @@ holds_marks n =
 
 -- RSR, WSR and XSR between a0 to a3 and these
 unfoldable pub moves_marks : Insn → Bool
-moves_marks (insn.System (system.Rsr name t n)) = nat_lt t 4 && holds_marks n
+moves_marks (insn.System (system.Special name t n)) = nat_lt t 4 && holds_marks n
 moves_marks _ = false
 
 abbrev pub is_mark : ℕ → Option ℕ → Bool
@@ -47,8 +47,8 @@ are_own_marks marks =
 
 -- the mark of the special register that RSR or XSR reads
 unfoldable pub mark_read : Insn → List (Option ℕ) → Option ℕ
-mark_read (insn.System (system.Rsr SpecialName.Rsr t n)) saved = slice_index_or saved n None
-mark_read (insn.System (system.Rsr SpecialName.Xsr t n)) saved = slice_index_or saved n None
+mark_read (insn.System (system.Special SpecialName.Rsr t n)) saved = slice_index_or saved n None
+mark_read (insn.System (system.Special SpecialName.Xsr t n)) saved = slice_index_or saved n None
 mark_read _ saved = None
 
 -- A visible register that is written receives this mark, or where there is none a number. The value

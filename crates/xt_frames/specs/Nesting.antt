@@ -19,7 +19,7 @@ use Rattle.std.specs.Prelude.{Some, None, List, [], is_some, replicate, slice_in
 use Rattle.xt_isa.specs.declared.Insn.{Insn}
 use Rattle.xt_isa.specs.declared.Insn.TheVariants as insn
 use Rattle.xt_isa.specs.declared.system.System.TheVariants as system
-use Rattle.xt_isa.specs.declared.system.ReturnName.TheVariants as ReturnName
+use Rattle.xt_isa.specs.declared.system.ExceptionReturnName.TheVariants as ExceptionReturnName
 use Rattle.xt_isa.specs.declared.system.SpecialName.TheVariants as SpecialName
 use Rattle.xt_special.specs.Numbers as number
 use Rattle.xt_trace.specs.declared.record.StepKind.{StepKind}
@@ -51,11 +51,11 @@ is_kept_register n =
 
 -- a write of PS, EPC5 or EPS5, RSIL, WAITI, RFE, RFDE, and RFI of another level
 unfoldable pub disturbs_nested : Insn → Bool
-disturbs_nested (insn.System (system.Rsr SpecialName.Wsr t n)) = is_kept_register n
-disturbs_nested (insn.System (system.Rsr SpecialName.Xsr t n)) = is_kept_register n
-disturbs_nested (insn.System (system.Rsil name t level)) = true
-disturbs_nested (insn.System (system.Rfe ReturnName.Rfe)) = true
-disturbs_nested (insn.System (system.Rfe ReturnName.Rfde)) = true
+disturbs_nested (insn.System (system.Special SpecialName.Wsr t n)) = is_kept_register n
+disturbs_nested (insn.System (system.Special SpecialName.Xsr t n)) = is_kept_register n
+disturbs_nested (insn.System (system.Level name t level)) = true
+disturbs_nested (insn.System (system.ExceptionReturn ExceptionReturnName.Rfe)) = true
+disturbs_nested (insn.System (system.ExceptionReturn ExceptionReturnName.Rfde)) = true
 disturbs_nested (insn.System (system.Rfi level)) = not (natural level == nested_level)
 disturbs_nested _ = false
 

@@ -23,11 +23,11 @@ use crate::kinds::BreachKind;
 use crate::view::{Caller, FrameRegisters, NextEvent, StepSummary};
 use xt_codec::{Fetch, instruction_at};
 use xt_isa::Insn;
-use xt_isa::control::{Control, RetName};
-use xt_isa::density::{Density, NarrowRetName};
+use xt_isa::control::{Control, ReturnName};
+use xt_isa::density::{BareName, Density};
 use xt_isa::memory::Memory;
 use xt_isa::shift::Shift;
-use xt_isa::system::{ReturnName, SpecialName, System};
+use xt_isa::system::{ExceptionReturnName, SpecialName, System};
 use xt_map::Constants;
 use xt_rows::{highest_register, minus, natural, reads, special_reads};
 use xt_special::number;
@@ -204,8 +204,8 @@ pub fn is_return(i: Insn) -> bool
 {
     matches!(
         i,
-        Insn::Control(Control::Ret(RetName::Retw))
-            | Insn::Density(Density::Ret(NarrowRetName::Retw))
+        Insn::Control(Control::Return(ReturnName::Retw))
+            | Insn::Density(Density::Bare(BareName::Retw))
     )
 }
 
@@ -231,8 +231,11 @@ fn is_windowing(i: Insn) -> bool
 {
     matches!(
         i,
-        Insn::Memory(Memory::L32e(_, _, _, _))
-            | Insn::System(System::Rfe(ReturnName::Rfwo | ReturnName::Rfwu) | System::Rotw(_))
+        Insn::Memory(Memory::Window(_, _, _, _))
+            | Insn::System(
+                System::ExceptionReturn(ExceptionReturnName::Rfwo | ExceptionReturnName::Rfwu)
+                    | System::Rotw(_)
+            )
     )
 }
 
@@ -241,7 +244,7 @@ fn names_window_register(i: Insn) -> bool
     ensures { result ≡ names_window_register i }
 {
     match i {
-        Insn::System(System::Rsr(_, _, n)) => {
+        Insn::System(System::Special(_, _, n)) => {
             n == number::WINDOWBASE || n == number::WINDOWSTART
         }
         _ => false,
@@ -518,7 +521,8 @@ fn sets_epc1(i: Insn) -> bool
     ensures { result ≡ sets_epc1 i }
 {
     match i {
-        Insn::System(System::Rsr(SpecialName::Wsr | SpecialName::Xsr, _, n)) => n == number::EPC1,
+        Insn::System(System::Special(SpecialName::Wsr | SpecialName::Xsr, _, n)) => n
+            == number::EPC1,
         _ => false,
     }
 }

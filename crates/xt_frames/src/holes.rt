@@ -9,7 +9,7 @@ ghost use Rattle.xt_frames.specs.Marks.{are_own_marks, mark_read, moved_to, move
 ghost use Rattle.xt_frames.specs.Nesting.{disturbs_nested, ends_nested, is_kept_register, is_nesting};
 
 use xt_isa::Insn;
-use xt_isa::system::{ReturnName, SpecialName, System};
+use xt_isa::system::{ExceptionReturnName, SpecialName, System};
 use xt_special::{Ps, number};
 use xt_trace::StepKind;
 
@@ -88,7 +88,7 @@ pub fn moves_marks(i: Insn) -> bool
     ensures { result ≡ moves_marks i }
 {
     match i {
-        Insn::System(System::Rsr(_, t, n)) => {
+        Insn::System(System::Special(_, t, n)) => {
             t < 4
                 && ((number::EXCSAVE1 <= n && n <= number::EXCSAVE7)
                     || (number::MISC0 <= n && n <= number::MISC3))
@@ -121,9 +121,12 @@ pub fn disturbs_nested(i: Insn) -> bool
     ensures { result ≡ disturbs_nested i }
 {
     match i {
-        Insn::System(System::Rsr(SpecialName::Wsr | SpecialName::Xsr, _, n)) => is_kept_register(n),
-        Insn::System(System::Rsil(_, _, _)) => true,
-        Insn::System(System::Rfe(ReturnName::Rfe | ReturnName::Rfde)) => true,
+        Insn::System(System::Special(SpecialName::Wsr | SpecialName::Xsr, _, n)) =>
+            is_kept_register(n),
+        Insn::System(System::Level(_, _, _)) => true,
+        Insn::System(
+            System::ExceptionReturn(ExceptionReturnName::Rfe | ExceptionReturnName::Rfde),
+        ) => true,
         Insn::System(System::Rfi(level)) => xt_rows::natural(level) != u32::from(NESTED_LEVEL),
         _ => false,
     }
@@ -142,7 +145,8 @@ pub fn mark_read(i: Insn, x: &Nested) -> Option<u8>
     ensures { result ≡ mark_read i x.now.saved }
 {
     match i {
-        Insn::System(System::Rsr(SpecialName::Rsr | SpecialName::Xsr, _, n)) => x.saved[n as usize],
+        Insn::System(System::Special(SpecialName::Rsr | SpecialName::Xsr, _, n)) =>
+            x.saved[n as usize],
         _ => None,
     }
 }
@@ -155,7 +159,7 @@ pub fn moved_to(i: Insn) -> Option<(u8, u8)>
     ensures range { IfSome result (λ p. p.0 < 16) }
 {
     match i {
-        Insn::System(System::Rsr(SpecialName::Wsr | SpecialName::Xsr, t, n)) => Some((t, n)),
+        Insn::System(System::Special(SpecialName::Wsr | SpecialName::Xsr, t, n)) => Some((t, n)),
         _ => None,
     }
 }

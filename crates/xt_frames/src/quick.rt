@@ -20,8 +20,8 @@ use crate::holes::{UndefinedParts, is_unset};
 use crate::view::FrameRegisters;
 use xt_codec::{Fetch, instruction_at};
 use xt_isa::Insn;
-use xt_isa::control::{Control, RetName};
-use xt_isa::density::{Density, NarrowRetName};
+use xt_isa::control::{Control, ReturnName};
+use xt_isa::density::{BareName, Density};
 use xt_isa::memory::Memory;
 use xt_isa::shift::Shift;
 use xt_map::Constants;
@@ -37,9 +37,9 @@ fn is_common(i: Insn) -> bool
     ensures { result ≡ true → IsCommon i }
 {
     match i {
-        Insn::Control(Control::Entry(_, _) | Control::Ret(RetName::Retw)) => false,
-        Insn::Density(Density::Ret(NarrowRetName::Retw)) => false,
-        Insn::Memory(Memory::L32e(_, _, _, _)) => false,
+        Insn::Control(Control::Entry(_, _) | Control::Return(ReturnName::Retw)) => false,
+        Insn::Density(Density::Bare(BareName::Retw)) => false,
+        Insn::Memory(Memory::Window(_, _, _, _)) => false,
         Insn::Shift(Shift::Movsp(_, _)) => false,
         Insn::System(_) => false,
         _ => true,

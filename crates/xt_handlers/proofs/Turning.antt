@@ -12,9 +12,9 @@ use Rattle.xt_isa.specs.declared.memory.WindowName.TheVariants as window
 use Rattle.xt_isa.specs.declared.memory.Memory.TheVariants as memory
 use Rattle.xt_isa.specs.declared.system.System.TheVariants as system
 use Rattle.xt_isa.specs.declared.system.WaitName.TheVariants as wait
-use Rattle.xt_isa.specs.declared.system.ReturnName.TheVariants as return
+use Rattle.xt_isa.specs.declared.system.ExceptionReturnName.TheVariants as return
 use Rattle.xt_isa.specs.declared.density.Density.TheVariants as density
-use Rattle.xt_isa.specs.declared.density.NarrowRetName.TheVariants as narrow
+use Rattle.xt_isa.specs.declared.density.BareName.TheVariants as narrow
 use Rattle.xt_isa.specs.Ranges.{in_range, two_registers, window_within}
 use Rattle.xt_isa.specs.Spelling.{spelled_insn, fields_at, length_of}
 use Rattle.xt_isa.proofs.Ranged.{spelled_at_in_range}
@@ -42,11 +42,11 @@ window_registers window.S32e t s offset h = h
 
 insn_registers : (i : Insn) → in_range i ≡ true → HasRegisters (step_of_insn i)
 unfolding step_of_insn
-insn_registers (insn.Memory (memory.L32e name t s offset)) h = window_registers name t s offset (two_small t s (and_parts (two_registers t s) (window_within offset) h).0)
-insn_registers (insn.System (system.Excw wait.Nop)) h = tt
-insn_registers (insn.Density (density.Ret narrow.Nop)) h = tt
-insn_registers (insn.System (system.Rfe return.Rfwo)) h = tt
-insn_registers (insn.System (system.Rfe return.Rfwu)) h = tt
+insn_registers (insn.Memory (memory.Window name t s offset)) h = window_registers name t s offset (two_small t s (and_parts (two_registers t s) (window_within offset) h).0)
+insn_registers (insn.System (system.Wait wait.Nop)) h = tt
+insn_registers (insn.Density (density.Bare narrow.Nop)) h = tt
+insn_registers (insn.System (system.ExceptionReturn return.Rfwo)) h = tt
+insn_registers (insn.System (system.ExceptionReturn return.Rfwu)) h = tt
 insn_registers _ h = tt
 
 spelled_registers : (o : Option Insn) → ((i : Insn) → Some i ≡ o → in_range i ≡ true) → HasRegisters (step_of_spelled o)

@@ -9,9 +9,9 @@ use Rattle.xt_isa.specs.declared.memory.WindowName.TheVariants as window
 use Rattle.xt_isa.specs.declared.memory.Memory.TheVariants as memory
 use Rattle.xt_isa.specs.declared.system.System.TheVariants as system
 use Rattle.xt_isa.specs.declared.system.WaitName.TheVariants as wait
-use Rattle.xt_isa.specs.declared.system.ReturnName.TheVariants as return
+use Rattle.xt_isa.specs.declared.system.ExceptionReturnName.TheVariants as return
 use Rattle.xt_isa.specs.declared.density.Density.TheVariants as density
-use Rattle.xt_isa.specs.declared.density.NarrowRetName.TheVariants as narrow
+use Rattle.xt_isa.specs.declared.density.BareName.TheVariants as narrow
 use Rattle.xt_isa.specs.Spelling.{spelled_insn, fields_at, length_of}
 use Rattle.xt_handlers.specs.Handling.{Line}
 use Rattle.xt_handlers.specs.declared.stretch.HandlerInsn.{HandlerInsn}
@@ -23,11 +23,11 @@ window_step_of window.S32e t s offset = S32e t s (unsigned_abs offset)
 
 -- what an instruction is to a handler
 unfoldable pub step_of_insn : Insn → HandlerInsn
-step_of_insn (insn.Memory (memory.L32e name t s offset)) = window_step_of name t s offset
-step_of_insn (insn.System (system.Excw wait.Nop)) = Nop
-step_of_insn (insn.Density (density.Ret narrow.Nop)) = Nop
-step_of_insn (insn.System (system.Rfe return.Rfwo)) = Rfwo
-step_of_insn (insn.System (system.Rfe return.Rfwu)) = Rfwu
+step_of_insn (insn.Memory (memory.Window name t s offset)) = window_step_of name t s offset
+step_of_insn (insn.System (system.Wait wait.Nop)) = Nop
+step_of_insn (insn.Density (density.Bare narrow.Nop)) = Nop
+step_of_insn (insn.System (system.ExceptionReturn return.Rfwo)) = Rfwo
+step_of_insn (insn.System (system.ExceptionReturn return.Rfwu)) = Rfwu
 step_of_insn _ = Foreign
 
 abbrev pub step_of_spelled : Option Insn → HandlerInsn

@@ -8,9 +8,9 @@ ghost use Rattle.xt_handlers.specs.Spelled.{HasRegisters, step_of, step_of_insn}
 use crate::HandlerInsn;
 use xt_codec::{Decoded, decode};
 use xt_isa::Insn;
-use xt_isa::density::{Density, NarrowRetName};
+use xt_isa::density::{BareName, Density};
 use xt_isa::memory::{Memory, WindowName};
-use xt_isa::system::{ReturnName, System, WaitName};
+use xt_isa::system::{ExceptionReturnName, System, WaitName};
 
 /// What an instruction is to a handler.
 #[tactic(auto, unfolding(crate::specs::Spelled::step_of_insn, xt_isa::specs::Ranges::two_registers, xt_isa::specs::Ranges::window_within))]
@@ -20,16 +20,16 @@ fn step_of_insn(i: Insn) -> HandlerInsn
     ensures registers { HasRegisters result }
 {
     match i {
-        Insn::Memory(Memory::L32e(WindowName::L32e, t, s, offset)) => {
+        Insn::Memory(Memory::Window(WindowName::L32e, t, s, offset)) => {
             HandlerInsn::L32e(t, s, offset.unsigned_abs() as u8)
         }
-        Insn::Memory(Memory::L32e(WindowName::S32e, t, s, offset)) => {
+        Insn::Memory(Memory::Window(WindowName::S32e, t, s, offset)) => {
             HandlerInsn::S32e(t, s, offset.unsigned_abs() as u8)
         }
-        Insn::System(System::Excw(WaitName::Nop)) => HandlerInsn::Nop,
-        Insn::Density(Density::Ret(NarrowRetName::Nop)) => HandlerInsn::Nop,
-        Insn::System(System::Rfe(ReturnName::Rfwo)) => HandlerInsn::Rfwo,
-        Insn::System(System::Rfe(ReturnName::Rfwu)) => HandlerInsn::Rfwu,
+        Insn::System(System::Wait(WaitName::Nop)) => HandlerInsn::Nop,
+        Insn::Density(Density::Bare(BareName::Nop)) => HandlerInsn::Nop,
+        Insn::System(System::ExceptionReturn(ExceptionReturnName::Rfwo)) => HandlerInsn::Rfwo,
+        Insn::System(System::ExceptionReturn(ExceptionReturnName::Rfwu)) => HandlerInsn::Rfwu,
         _ => HandlerInsn::Foreign,
     }
 }

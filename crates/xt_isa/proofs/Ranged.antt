@@ -214,14 +214,14 @@ waiti w n = natural_low 15 _ (omega arith)
 rotw : (w : Fields) → AreNibbles w → signed_within 8 (signed 8 w.t) ≡ true
 rotw w n = signed_ok 8 _ (omega arith) (omega arith)
 
-rsr : (w : Fields) → AreNibbles w → holds (cond (can_read (eight w)) (Some (insn.System (system.Rsr special.Rsr w.t (eight w)))) None) ≡ true
-rsr w n = guarded (can_read (eight w)) (insn.System (system.Rsr special.Rsr w.t (eight w))) (λ h. and_from _ _ (single_t w n) h)
+rsr : (w : Fields) → AreNibbles w → holds (cond (can_read (eight w)) (Some (insn.System (system.Special special.Rsr w.t (eight w)))) None) ≡ true
+rsr w n = guarded (can_read (eight w)) (insn.System (system.Special special.Rsr w.t (eight w))) (λ h. and_from _ _ (single_t w n) h)
 
-wsr : (w : Fields) → AreNibbles w → holds (cond (can_write (eight w)) (Some (insn.System (system.Rsr special.Wsr w.t (eight w)))) None) ≡ true
-wsr w n = guarded (can_write (eight w)) (insn.System (system.Rsr special.Wsr w.t (eight w))) (λ h. and_from _ _ (single_t w n) h)
+wsr : (w : Fields) → AreNibbles w → holds (cond (can_write (eight w)) (Some (insn.System (system.Special special.Wsr w.t (eight w)))) None) ≡ true
+wsr w n = guarded (can_write (eight w)) (insn.System (system.Special special.Wsr w.t (eight w))) (λ h. and_from _ _ (single_t w n) h)
 
-xsr : (w : Fields) → AreNibbles w → holds (cond (can_exchange (eight w)) (Some (insn.System (system.Rsr special.Xsr w.t (eight w)))) None) ≡ true
-xsr w n = guarded (can_exchange (eight w)) (insn.System (system.Rsr special.Xsr w.t (eight w))) (λ h. and_from _ _ (single_t w n) h)
+xsr : (w : Fields) → AreNibbles w → holds (cond (can_exchange (eight w)) (Some (insn.System (system.Special special.Xsr w.t (eight w)))) None) ≡ true
+xsr w n = guarded (can_exchange (eight w)) (insn.System (system.Special special.Xsr w.t (eight w))) (λ h. and_from _ _ (single_t w n) h)
 
 rur : (w : Fields) → AreNibbles w → (one_register w.r && true) ≡ true
 rur w n = and_from _ _ (single_r w n) refl
@@ -253,11 +253,11 @@ narrow_break : (w : Fields) → AreNibbles w → natural_within 0 15 (pos w.s) �
 narrow_break w n = natural_low 15 _ (omega arith)
 
 -- four or eight Boolean registers from a multiple of 4 or 8
-four : (name : FourName) (w : Fields) → AreNibbles w → holds (cond (eqb (w.s % 4) 0) (Some (insn.Boolean (boolean.Any4 name w.t w.s))) None) ≡ true
-four name w n = guarded (eqb (w.s % 4) 0) (insn.Boolean (boolean.Any4 name w.t w.s)) (λ h. and_from _ _ (pair_ts w n) h)
+four : (name : FourName) (w : Fields) → AreNibbles w → holds (cond (eqb (w.s % 4) 0) (Some (insn.Boolean (boolean.Four name w.t w.s))) None) ≡ true
+four name w n = guarded (eqb (w.s % 4) 0) (insn.Boolean (boolean.Four name w.t w.s)) (λ h. and_from _ _ (pair_ts w n) h)
 
-eight_registers : (name : EightName) (w : Fields) → AreNibbles w → holds (cond (eqb (w.s % 8) 0) (Some (insn.Boolean (boolean.Any8 name w.t w.s))) None) ≡ true
-eight_registers name w n = guarded (eqb (w.s % 8) 0) (insn.Boolean (boolean.Any8 name w.t w.s)) (λ h. and_from _ _ (pair_ts w n) h)
+eight_registers : (name : EightName) (w : Fields) → AreNibbles w → holds (cond (eqb (w.s % 8) 0) (Some (insn.Boolean (boolean.Eight name w.t w.s))) None) ≡ true
+eight_registers name w n = guarded (eqb (w.s % 8) 0) (insn.Boolean (boolean.Eight name w.t w.s)) (λ h. and_from _ _ (pair_ts w n) h)
 
 test : (w : Fields) → AreNibbles w → (one_register w.s && signed_within 128 (signed 128 (imm8 w))) ≡ true
 test w n = and_from _ _ (single w n) (signed_ok 128 _ (omega arith) (omega arith))

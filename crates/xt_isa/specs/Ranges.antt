@@ -20,7 +20,7 @@ use Rattle.xt_isa.specs.declared.density.Density.{Density}
 use Rattle.xt_isa.specs.declared.density.Density.TheVariants as density
 use Rattle.xt_isa.specs.declared.boolean.Boolean.{Boolean}
 use Rattle.xt_isa.specs.declared.boolean.Boolean.TheVariants as boolean
-use Rattle.xt_isa.specs.declared.system.BreakName.TheVariants.{Break, Syscall}
+use Rattle.xt_isa.specs.declared.system.TrapName.TheVariants.{Break, Syscall}
 use Rattle.xt_isa.specs.declared.system.LevelName.TheVariants.{Rsil, Waiti}
 use Rattle.xt_isa.specs.declared.system.SpecialName.TheVariants.{Rsr, Wsr, Xsr}
 use Rattle.xt_isa.specs.Numbers.{threadptr}
@@ -97,39 +97,39 @@ narrow_within (negsuc n) = nat_lt n 32
 
 -- ---- Ranges by the tables of instructions.
 abbrev pub three_in_range : Three → Bool
-three_in_range (three.And n r s t) = three_registers r s t
-three_in_range (three.Add n r s t) = three_registers r s t
-three_in_range (three.Sub n r s t) = three_registers r s t
+three_in_range (three.Bitwise n r s t) = three_registers r s t
+three_in_range (three.Sum n r s t) = three_registers r s t
+three_in_range (three.Difference n r s t) = three_registers r s t
 three_in_range (three.Src r s t) = three_registers r s t
-three_in_range (three.Mul16u n r s t) = three_registers r s t
+three_in_range (three.Mul16 n r s t) = three_registers r s t
 three_in_range (three.Mull r s t) = three_registers r s t
-three_in_range (three.Muluh n r s t) = three_registers r s t
-three_in_range (three.Quou n r s t) = three_registers r s t
-three_in_range (three.Min n r s t) = three_registers r s t
-three_in_range (three.Moveqz n r s t) = three_registers r s t
+three_in_range (three.MulHigh n r s t) = three_registers r s t
+three_in_range (three.Divide n r s t) = three_registers r s t
+three_in_range (three.MinMax n r s t) = three_registers r s t
+three_in_range (three.Move n r s t) = three_registers r s t
 
 abbrev pub shift_in_range : Shift → Bool
-shift_in_range (shift.Neg name r t) = two_registers r t
-shift_in_range (shift.Srl name r t) = two_registers r t
+shift_in_range (shift.Sign name r t) = two_registers r t
+shift_in_range (shift.ShiftRight name r t) = two_registers r t
 shift_in_range (shift.Sll r s) = two_registers r s
 shift_in_range (shift.Slli r s n) = two_registers r s && natural_within 1 31 n
 shift_in_range (shift.Srai r t n) = two_registers r t && natural_within 0 31 n
 shift_in_range (shift.Srli r t n) = two_registers r t && natural_within 0 15 n
 shift_in_range (shift.Extui r t n m) =
     two_registers r t && (natural_within 0 31 n && natural_within 1 16 m)
-shift_in_range (shift.Sext name r s b) = two_registers r s && natural_within 7 22 b
-shift_in_range (shift.Nsa name t s) = two_registers t s
+shift_in_range (shift.Signed name r s b) = two_registers r s && natural_within 7 22 b
+shift_in_range (shift.Normalize name t s) = two_registers t s
 shift_in_range (shift.Movsp t s) = two_registers t s
-shift_in_range (shift.Ssr name s) = one_register s
-shift_in_range (shift.Ssa8l name s) = one_register s
+shift_in_range (shift.Amount name s) = one_register s
+shift_in_range (shift.ByteAmount name s) = one_register s
 shift_in_range (shift.Ssai n) = natural_within 0 31 n
 
 abbrev pub memory_in_range : Memory → Bool
-memory_in_range (memory.L8ui name t s off) = two_registers t s && natural_within 0 255 off
-memory_in_range (memory.L16ui name t s off) = two_registers t s && multiple_within 2 256 off
-memory_in_range (memory.L32i name t s off) = two_registers t s && multiple_within 4 256 off
+memory_in_range (memory.Byte name t s off) = two_registers t s && natural_within 0 255 off
+memory_in_range (memory.Half name t s off) = two_registers t s && multiple_within 2 256 off
+memory_in_range (memory.Word name t s off) = two_registers t s && multiple_within 4 256 off
 memory_in_range (memory.S32c1i t s off) = two_registers t s && multiple_within 4 256 off
-memory_in_range (memory.L32e name t s off) = two_registers t s && window_within off
+memory_in_range (memory.Window name t s off) = two_registers t s && window_within off
 memory_in_range (memory.L32r t off) = one_register t && literal_within off
 memory_in_range (memory.Movi t n) = one_register t && signed_within 2048 n
 memory_in_range (memory.Addi t s n) = two_registers t s && signed_within 128 n
@@ -137,53 +137,53 @@ memory_in_range (memory.Addmi t s n) = two_registers t s && page_within n
 
 abbrev pub control_in_range : Control → Bool
 control_in_range (control.J off) = signed_within 131072 off
-control_in_range (control.Call0 name off) = call_within off
-control_in_range (control.Ret name) = true
+control_in_range (control.Call name off) = call_within off
+control_in_range (control.Return name) = true
 control_in_range (control.Jx s) = one_register s
-control_in_range (control.Callx0 name s) = one_register s
-control_in_range (control.Beqz name s off) = one_register s && signed_within 2048 off
-control_in_range (control.Beqi name s c off) =
+control_in_range (control.Callx name s) = one_register s
+control_in_range (control.BranchZero name s off) = one_register s && signed_within 2048 off
+control_in_range (control.BranchConst name s c off) =
     one_register s && (is_b4const c && signed_within 128 off)
-control_in_range (control.Bltui name s c off) =
+control_in_range (control.BranchConstu name s c off) =
     one_register s && (is_b4constu c && signed_within 128 off)
-control_in_range (control.Bnone name s t off) = two_registers s t && signed_within 128 off
-control_in_range (control.Bany name s t off) = two_registers s t && signed_within 128 off
-control_in_range (control.Bbci name s b off) =
+control_in_range (control.Branch name s t off) = two_registers s t && signed_within 128 off
+control_in_range (control.BranchNot name s t off) = two_registers s t && signed_within 128 off
+control_in_range (control.BranchBit name s b off) =
     one_register s && (natural_within 0 31 b && signed_within 128 off)
 control_in_range (control.Entry s n) = one_register s && multiple_within 8 4096 n
 control_in_range (control.Loop name s off) = one_register s && natural_within 0 255 off
 
 abbrev pub system_in_range : System → Bool
-system_in_range (system.Ill name) = true
-system_in_range (system.Excw name) = true
-system_in_range (system.Rfe name) = true
+system_in_range (system.Sync name) = true
+system_in_range (system.Wait name) = true
+system_in_range (system.ExceptionReturn name) = true
 system_in_range (system.Rfi l) = natural_within 2 7 l
-system_in_range (system.Break Break x y) = natural_within 0 15 x && natural_within 0 15 y
-system_in_range (system.Break Syscall x y) = natural_within 0 0 x && natural_within 0 0 y
-system_in_range (system.Rsil Rsil t l) = one_register t && natural_within 0 15 l
-system_in_range (system.Rsil Waiti t l) = t == 0 && natural_within 0 15 l
+system_in_range (system.Trap Break x y) = natural_within 0 15 x && natural_within 0 15 y
+system_in_range (system.Trap Syscall x y) = natural_within 0 0 x && natural_within 0 0 y
+system_in_range (system.Level Rsil t l) = one_register t && natural_within 0 15 l
+system_in_range (system.Level Waiti t l) = t == 0 && natural_within 0 15 l
 system_in_range (system.Rotw n) = signed_within 8 n
-system_in_range (system.Rsr Rsr t n) = one_register t && can_read n
-system_in_range (system.Rsr Wsr t n) = one_register t && can_write n
-system_in_range (system.Rsr Xsr t n) = one_register t && can_exchange n
-system_in_range (system.Rur name r n) = one_register r && n == threadptr
+system_in_range (system.Special Rsr t n) = one_register t && can_read n
+system_in_range (system.Special Wsr t n) = one_register t && can_write n
+system_in_range (system.Special Xsr t n) = one_register t && can_exchange n
+system_in_range (system.User name r n) = one_register r && n == threadptr
 
 abbrev pub density_in_range : Density → Bool
-density_in_range (density.L32i name t s off) = two_registers t s && multiple_within 4 16 off
+density_in_range (density.Word name t s off) = two_registers t s && multiple_within 4 16 off
 density_in_range (density.Add r s t) = three_registers r s t
 density_in_range (density.Addi r s n) = two_registers r s && small_within n
 density_in_range (density.Movi s n) = one_register s && narrow_within n
-density_in_range (density.Beqz name s off) = one_register s && natural_within 0 63 off
+density_in_range (density.BranchZero name s off) = one_register s && natural_within 0 63 off
 density_in_range (density.Mov t s) = two_registers t s
-density_in_range (density.Ret name) = true
+density_in_range (density.Bare name) = true
 density_in_range (density.Break n) = natural_within 0 15 n
 
 abbrev pub boolean_in_range : Boolean → Bool
-boolean_in_range (boolean.Andb name r s t) = three_registers r s t
-boolean_in_range (boolean.Any4 name t s) = two_registers t s && s % 4 == 0
-boolean_in_range (boolean.Any8 name t s) = two_registers t s && s % 8 == 0
-boolean_in_range (boolean.Bf name s off) = one_register s && signed_within 128 off
-boolean_in_range (boolean.Movf name r s t) = three_registers r s t
+boolean_in_range (boolean.Logic name r s t) = three_registers r s t
+boolean_in_range (boolean.Four name t s) = two_registers t s && s % 4 == 0
+boolean_in_range (boolean.Eight name t s) = two_registers t s && s % 8 == 0
+boolean_in_range (boolean.Test name s off) = one_register s && signed_within 128 off
+boolean_in_range (boolean.Choice name r s t) = three_registers r s t
 
 -- each operand is in its row's range
 abbrev pub in_range : Insn → Bool

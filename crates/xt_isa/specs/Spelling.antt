@@ -27,26 +27,26 @@ use Rattle.xt_isa.specs.declared.control.Control.TheVariants as control
 use Rattle.xt_isa.specs.declared.system.System.TheVariants as system
 use Rattle.xt_isa.specs.declared.density.Density.TheVariants as density
 use Rattle.xt_isa.specs.declared.boolean.Boolean.TheVariants as boolean
-use Rattle.xt_isa.specs.declared.three.AndName.TheVariants as AndName
-use Rattle.xt_isa.specs.declared.three.AddName.TheVariants as AddName
-use Rattle.xt_isa.specs.declared.three.SubName.TheVariants as SubName
+use Rattle.xt_isa.specs.declared.three.BitwiseName.TheVariants as BitwiseName
+use Rattle.xt_isa.specs.declared.three.SumName.TheVariants as SumName
+use Rattle.xt_isa.specs.declared.three.DifferenceName.TheVariants as DifferenceName
 use Rattle.xt_isa.specs.declared.three.Mul16Name.TheVariants as Mul16Name
 use Rattle.xt_isa.specs.declared.three.MulHighName.TheVariants as MulHighName
 use Rattle.xt_isa.specs.declared.three.DivideName.TheVariants as DivideName
-use Rattle.xt_isa.specs.declared.three.MinName.TheVariants as MinName
+use Rattle.xt_isa.specs.declared.three.MinMaxName.TheVariants as MinMaxName
 use Rattle.xt_isa.specs.declared.three.MoveName.TheVariants as MoveName
-use Rattle.xt_isa.specs.declared.shift.NegName.TheVariants as NegName
-use Rattle.xt_isa.specs.declared.shift.SrlName.TheVariants as SrlName
-use Rattle.xt_isa.specs.declared.shift.SextName.TheVariants as SextName
-use Rattle.xt_isa.specs.declared.shift.NsaName.TheVariants as NsaName
-use Rattle.xt_isa.specs.declared.shift.SsrName.TheVariants as SsrName
-use Rattle.xt_isa.specs.declared.shift.Ssa8Name.TheVariants as Ssa8Name
+use Rattle.xt_isa.specs.declared.shift.SignName.TheVariants as SignName
+use Rattle.xt_isa.specs.declared.shift.ShiftRightName.TheVariants as ShiftRightName
+use Rattle.xt_isa.specs.declared.shift.SignedName.TheVariants as SignedName
+use Rattle.xt_isa.specs.declared.shift.NormalizeName.TheVariants as NormalizeName
+use Rattle.xt_isa.specs.declared.shift.AmountName.TheVariants as AmountName
+use Rattle.xt_isa.specs.declared.shift.ByteAmountName.TheVariants as ByteAmountName
 use Rattle.xt_isa.specs.declared.memory.ByteName.TheVariants as ByteName
 use Rattle.xt_isa.specs.declared.memory.HalfName.TheVariants as HalfName
 use Rattle.xt_isa.specs.declared.memory.WordName.TheVariants as WordName
 use Rattle.xt_isa.specs.declared.memory.WindowName.TheVariants as WindowName
 use Rattle.xt_isa.specs.declared.control.CallName.TheVariants as CallName
-use Rattle.xt_isa.specs.declared.control.RetName.TheVariants as RetName
+use Rattle.xt_isa.specs.declared.control.ReturnName.TheVariants as ReturnName
 use Rattle.xt_isa.specs.declared.control.CallxName.TheVariants as CallxName
 use Rattle.xt_isa.specs.declared.control.ZeroName.TheVariants as ZeroName
 use Rattle.xt_isa.specs.declared.control.ConstName.TheVariants as ConstName
@@ -57,14 +57,14 @@ use Rattle.xt_isa.specs.declared.control.BitName.TheVariants as BitName
 use Rattle.xt_isa.specs.declared.control.LoopName.TheVariants as LoopName
 use Rattle.xt_isa.specs.declared.system.SyncName.TheVariants as SyncName
 use Rattle.xt_isa.specs.declared.system.WaitName.TheVariants as WaitName
-use Rattle.xt_isa.specs.declared.system.ReturnName.TheVariants as ReturnName
-use Rattle.xt_isa.specs.declared.system.BreakName.TheVariants as BreakName
+use Rattle.xt_isa.specs.declared.system.ExceptionReturnName.TheVariants as ExceptionReturnName
+use Rattle.xt_isa.specs.declared.system.TrapName.TheVariants as TrapName
 use Rattle.xt_isa.specs.declared.system.LevelName.TheVariants as LevelName
 use Rattle.xt_isa.specs.declared.system.SpecialName.TheVariants as SpecialName
 use Rattle.xt_isa.specs.declared.system.UserName.TheVariants as UserName
 use Rattle.xt_isa.specs.declared.density.NarrowName.TheVariants as NarrowName
 use Rattle.xt_isa.specs.declared.density.NarrowZeroName.TheVariants as NarrowZeroName
-use Rattle.xt_isa.specs.declared.density.NarrowRetName.TheVariants as NarrowRetName
+use Rattle.xt_isa.specs.declared.density.BareName.TheVariants as BareName
 use Rattle.xt_isa.specs.declared.boolean.LogicName.TheVariants as LogicName
 use Rattle.xt_isa.specs.declared.boolean.FourName.TheVariants as FourName
 use Rattle.xt_isa.specs.declared.boolean.EightName.TheVariants as EightName
@@ -177,44 +177,48 @@ spell (row ∷ rows) w = elim (fits row w) [ true ↦ row.operands w | false ↦
 -- Three registers: r is written, s and t are read.
 abbrev pub three_rows : List Row
 three_rows =
-    wide 0xFF000F 0x100000 (λ w. Some (insn.Three (three.And AndName.And w.r w.s w.t))) ∷
-    wide 0xFF000F 0x200000 (λ w. Some (insn.Three (three.And AndName.Or w.r w.s w.t))) ∷
-    wide 0xFF000F 0x300000 (λ w. Some (insn.Three (three.And AndName.Xor w.r w.s w.t))) ∷
-    wide 0xFF000F 0x800000 (λ w. Some (insn.Three (three.Add AddName.Add w.r w.s w.t))) ∷
-    wide 0xFF000F 0x900000 (λ w. Some (insn.Three (three.Add AddName.Addx2 w.r w.s w.t))) ∷
-    wide 0xFF000F 0xA00000 (λ w. Some (insn.Three (three.Add AddName.Addx4 w.r w.s w.t))) ∷
-    wide 0xFF000F 0xB00000 (λ w. Some (insn.Three (three.Add AddName.Addx8 w.r w.s w.t))) ∷
-    wide 0xFF000F 0xC00000 (λ w. Some (insn.Three (three.Sub SubName.Sub w.r w.s w.t))) ∷
-    wide 0xFF000F 0xD00000 (λ w. Some (insn.Three (three.Sub SubName.Subx2 w.r w.s w.t))) ∷
-    wide 0xFF000F 0xE00000 (λ w. Some (insn.Three (three.Sub SubName.Subx4 w.r w.s w.t))) ∷
-    wide 0xFF000F 0xF00000 (λ w. Some (insn.Three (three.Sub SubName.Subx8 w.r w.s w.t))) ∷
+    wide 0xFF000F 0x100000 (λ w. Some (insn.Three (three.Bitwise BitwiseName.And w.r w.s w.t))) ∷
+    wide 0xFF000F 0x200000 (λ w. Some (insn.Three (three.Bitwise BitwiseName.Or w.r w.s w.t))) ∷
+    wide 0xFF000F 0x300000 (λ w. Some (insn.Three (three.Bitwise BitwiseName.Xor w.r w.s w.t))) ∷
+    wide 0xFF000F 0x800000 (λ w. Some (insn.Three (three.Sum SumName.Add w.r w.s w.t))) ∷
+    wide 0xFF000F 0x900000 (λ w. Some (insn.Three (three.Sum SumName.Addx2 w.r w.s w.t))) ∷
+    wide 0xFF000F 0xA00000 (λ w. Some (insn.Three (three.Sum SumName.Addx4 w.r w.s w.t))) ∷
+    wide 0xFF000F 0xB00000 (λ w. Some (insn.Three (three.Sum SumName.Addx8 w.r w.s w.t))) ∷
+    wide 0xFF000F 0xC00000
+    (λ w. Some (insn.Three (three.Difference DifferenceName.Sub w.r w.s w.t))) ∷
+    wide 0xFF000F 0xD00000
+    (λ w. Some (insn.Three (three.Difference DifferenceName.Subx2 w.r w.s w.t))) ∷
+    wide 0xFF000F 0xE00000
+    (λ w. Some (insn.Three (three.Difference DifferenceName.Subx4 w.r w.s w.t))) ∷
+    wide 0xFF000F 0xF00000
+    (λ w. Some (insn.Three (three.Difference DifferenceName.Subx8 w.r w.s w.t))) ∷
     wide 0xFF000F 0x810000 (λ w. Some (insn.Three (three.Src w.r w.s w.t))) ∷
-    wide 0xFF000F 0xC10000 (λ w. Some (insn.Three (three.Mul16u Mul16Name.Mul16u w.r w.s w.t))) ∷
-    wide 0xFF000F 0xD10000 (λ w. Some (insn.Three (three.Mul16u Mul16Name.Mul16s w.r w.s w.t))) ∷
+    wide 0xFF000F 0xC10000 (λ w. Some (insn.Three (three.Mul16 Mul16Name.Mul16u w.r w.s w.t))) ∷
+    wide 0xFF000F 0xD10000 (λ w. Some (insn.Three (three.Mul16 Mul16Name.Mul16s w.r w.s w.t))) ∷
     wide 0xFF000F 0x820000 (λ w. Some (insn.Three (three.Mull w.r w.s w.t))) ∷
-    wide 0xFF000F 0xA20000 (λ w. Some (insn.Three (three.Muluh MulHighName.Muluh w.r w.s w.t))) ∷
-    wide 0xFF000F 0xB20000 (λ w. Some (insn.Three (three.Muluh MulHighName.Mulsh w.r w.s w.t))) ∷
-    wide 0xFF000F 0xC20000 (λ w. Some (insn.Three (three.Quou DivideName.Quou w.r w.s w.t))) ∷
-    wide 0xFF000F 0xD20000 (λ w. Some (insn.Three (three.Quou DivideName.Quos w.r w.s w.t))) ∷
-    wide 0xFF000F 0xE20000 (λ w. Some (insn.Three (three.Quou DivideName.Remu w.r w.s w.t))) ∷
-    wide 0xFF000F 0xF20000 (λ w. Some (insn.Three (three.Quou DivideName.Rems w.r w.s w.t))) ∷
-    wide 0xFF000F 0x430000 (λ w. Some (insn.Three (three.Min MinName.Min w.r w.s w.t))) ∷
-    wide 0xFF000F 0x530000 (λ w. Some (insn.Three (three.Min MinName.Max w.r w.s w.t))) ∷
-    wide 0xFF000F 0x630000 (λ w. Some (insn.Three (three.Min MinName.Minu w.r w.s w.t))) ∷
-    wide 0xFF000F 0x730000 (λ w. Some (insn.Three (three.Min MinName.Maxu w.r w.s w.t))) ∷
-    wide 0xFF000F 0x830000 (λ w. Some (insn.Three (three.Moveqz MoveName.Moveqz w.r w.s w.t))) ∷
-    wide 0xFF000F 0x930000 (λ w. Some (insn.Three (three.Moveqz MoveName.Movnez w.r w.s w.t))) ∷
-    wide 0xFF000F 0xA30000 (λ w. Some (insn.Three (three.Moveqz MoveName.Movltz w.r w.s w.t))) ∷
-    wide 0xFF000F 0xB30000 (λ w. Some (insn.Three (three.Moveqz MoveName.Movgez w.r w.s w.t))) ∷
+    wide 0xFF000F 0xA20000 (λ w. Some (insn.Three (three.MulHigh MulHighName.Muluh w.r w.s w.t))) ∷
+    wide 0xFF000F 0xB20000 (λ w. Some (insn.Three (three.MulHigh MulHighName.Mulsh w.r w.s w.t))) ∷
+    wide 0xFF000F 0xC20000 (λ w. Some (insn.Three (three.Divide DivideName.Quou w.r w.s w.t))) ∷
+    wide 0xFF000F 0xD20000 (λ w. Some (insn.Three (three.Divide DivideName.Quos w.r w.s w.t))) ∷
+    wide 0xFF000F 0xE20000 (λ w. Some (insn.Three (three.Divide DivideName.Remu w.r w.s w.t))) ∷
+    wide 0xFF000F 0xF20000 (λ w. Some (insn.Three (three.Divide DivideName.Rems w.r w.s w.t))) ∷
+    wide 0xFF000F 0x430000 (λ w. Some (insn.Three (three.MinMax MinMaxName.Min w.r w.s w.t))) ∷
+    wide 0xFF000F 0x530000 (λ w. Some (insn.Three (three.MinMax MinMaxName.Max w.r w.s w.t))) ∷
+    wide 0xFF000F 0x630000 (λ w. Some (insn.Three (three.MinMax MinMaxName.Minu w.r w.s w.t))) ∷
+    wide 0xFF000F 0x730000 (λ w. Some (insn.Three (three.MinMax MinMaxName.Maxu w.r w.s w.t))) ∷
+    wide 0xFF000F 0x830000 (λ w. Some (insn.Three (three.Move MoveName.Moveqz w.r w.s w.t))) ∷
+    wide 0xFF000F 0x930000 (λ w. Some (insn.Three (three.Move MoveName.Movnez w.r w.s w.t))) ∷
+    wide 0xFF000F 0xA30000 (λ w. Some (insn.Three (three.Move MoveName.Movltz w.r w.s w.t))) ∷
+    wide 0xFF000F 0xB30000 (λ w. Some (insn.Three (three.Move MoveName.Movgez w.r w.s w.t))) ∷
     []
 
 -- Shifts, and one source.
 abbrev pub shift_rows : List Row
 shift_rows =
-    wide 0xFF0F0F 0x600000 (λ w. Some (insn.Shift (shift.Neg NegName.Neg w.r w.t))) ∷
-    wide 0xFF0F0F 0x600100 (λ w. Some (insn.Shift (shift.Neg NegName.Abs w.r w.t))) ∷
-    wide 0xFF0F0F 0x910000 (λ w. Some (insn.Shift (shift.Srl SrlName.Srl w.r w.t))) ∷
-    wide 0xFF0F0F 0xB10000 (λ w. Some (insn.Shift (shift.Srl SrlName.Sra w.r w.t))) ∷
+    wide 0xFF0F0F 0x600000 (λ w. Some (insn.Shift (shift.Sign SignName.Neg w.r w.t))) ∷
+    wide 0xFF0F0F 0x600100 (λ w. Some (insn.Shift (shift.Sign SignName.Abs w.r w.t))) ∷
+    wide 0xFF0F0F 0x910000 (λ w. Some (insn.Shift (shift.ShiftRight ShiftRightName.Srl w.r w.t))) ∷
+    wide 0xFF0F0F 0xB10000 (λ w. Some (insn.Shift (shift.ShiftRight ShiftRightName.Sra w.r w.t))) ∷
     wide 0xFF00FF 0xA10000 (λ w. Some (insn.Shift (shift.Sll w.r w.s))) ∷
     wide 0xEF000F 0x010000 (λ w. if not (five w.t w.op2 == 0)
     then Some (insn.Shift (shift.Slli w.r w.s (pos (32 - five w.t w.op2))))
@@ -224,16 +228,16 @@ shift_rows =
     wide 0x0E000F 0x040000
     (λ w. Some (insn.Shift (shift.Extui w.r w.t (pos (five w.s w.op1)) (pos (w.op2 + 1))))) ∷
     wide 0xFF000F 0x230000
-    (λ w. Some (insn.Shift (shift.Sext SextName.Sext w.r w.s (pos (w.t + 7))))) ∷
+    (λ w. Some (insn.Shift (shift.Signed SignedName.Sext w.r w.s (pos (w.t + 7))))) ∷
     wide 0xFF000F 0x330000
-    (λ w. Some (insn.Shift (shift.Sext SextName.Clamps w.r w.s (pos (w.t + 7))))) ∷
-    wide 0xFFF00F 0x40E000 (λ w. Some (insn.Shift (shift.Nsa NsaName.Nsa w.t w.s))) ∷
-    wide 0xFFF00F 0x40F000 (λ w. Some (insn.Shift (shift.Nsa NsaName.Nsau w.t w.s))) ∷
+    (λ w. Some (insn.Shift (shift.Signed SignedName.Clamps w.r w.s (pos (w.t + 7))))) ∷
+    wide 0xFFF00F 0x40E000 (λ w. Some (insn.Shift (shift.Normalize NormalizeName.Nsa w.t w.s))) ∷
+    wide 0xFFF00F 0x40F000 (λ w. Some (insn.Shift (shift.Normalize NormalizeName.Nsau w.t w.s))) ∷
     wide 0xFFF00F 0x001000 (λ w. Some (insn.Shift (shift.Movsp w.t w.s))) ∷
-    wide 0xFFF0FF 0x400000 (λ w. Some (insn.Shift (shift.Ssr SsrName.Ssr w.s))) ∷
-    wide 0xFFF0FF 0x401000 (λ w. Some (insn.Shift (shift.Ssr SsrName.Ssl w.s))) ∷
-    wide 0xFFF0FF 0x402000 (λ w. Some (insn.Shift (shift.Ssa8l Ssa8Name.Ssa8l w.s))) ∷
-    wide 0xFFF0FF 0x403000 (λ w. Some (insn.Shift (shift.Ssa8l Ssa8Name.Ssa8b w.s))) ∷
+    wide 0xFFF0FF 0x400000 (λ w. Some (insn.Shift (shift.Amount AmountName.Ssr w.s))) ∷
+    wide 0xFFF0FF 0x401000 (λ w. Some (insn.Shift (shift.Amount AmountName.Ssl w.s))) ∷
+    wide 0xFFF0FF 0x402000 (λ w. Some (insn.Shift (shift.ByteAmount ByteAmountName.Ssa8l w.s))) ∷
+    wide 0xFFF0FF 0x403000 (λ w. Some (insn.Shift (shift.ByteAmount ByteAmountName.Ssa8b w.s))) ∷
     wide 0xFFF0EF 0x404000 (λ w. Some (insn.Shift (shift.Ssai (pos (five w.s w.t))))) ∷
     []
 
@@ -241,28 +245,28 @@ shift_rows =
 abbrev pub memory_rows : List Row
 memory_rows =
     wide 0x00F00F 0x000002
-    (λ w. Some (insn.Memory (memory.L8ui ByteName.L8ui w.t w.s (pos (imm8 w))))) ∷
+    (λ w. Some (insn.Memory (memory.Byte ByteName.L8ui w.t w.s (pos (imm8 w))))) ∷
     wide 0x00F00F 0x004002
-    (λ w. Some (insn.Memory (memory.L8ui ByteName.S8i w.t w.s (pos (imm8 w))))) ∷
+    (λ w. Some (insn.Memory (memory.Byte ByteName.S8i w.t w.s (pos (imm8 w))))) ∷
     wide 0x00F00F 0x001002
-    (λ w. Some (insn.Memory (memory.L16ui HalfName.L16ui w.t w.s (pos (2 * imm8 w))))) ∷
+    (λ w. Some (insn.Memory (memory.Half HalfName.L16ui w.t w.s (pos (2 * imm8 w))))) ∷
     wide 0x00F00F 0x009002
-    (λ w. Some (insn.Memory (memory.L16ui HalfName.L16si w.t w.s (pos (2 * imm8 w))))) ∷
+    (λ w. Some (insn.Memory (memory.Half HalfName.L16si w.t w.s (pos (2 * imm8 w))))) ∷
     wide 0x00F00F 0x005002
-    (λ w. Some (insn.Memory (memory.L16ui HalfName.S16i w.t w.s (pos (2 * imm8 w))))) ∷
+    (λ w. Some (insn.Memory (memory.Half HalfName.S16i w.t w.s (pos (2 * imm8 w))))) ∷
     wide 0x00F00F 0x002002
-    (λ w. Some (insn.Memory (memory.L32i WordName.L32i w.t w.s (pos (4 * imm8 w))))) ∷
+    (λ w. Some (insn.Memory (memory.Word WordName.L32i w.t w.s (pos (4 * imm8 w))))) ∷
     wide 0x00F00F 0x006002
-    (λ w. Some (insn.Memory (memory.L32i WordName.S32i w.t w.s (pos (4 * imm8 w))))) ∷
+    (λ w. Some (insn.Memory (memory.Word WordName.S32i w.t w.s (pos (4 * imm8 w))))) ∷
     wide 0x00F00F 0x00B002
-    (λ w. Some (insn.Memory (memory.L32i WordName.L32ai w.t w.s (pos (4 * imm8 w))))) ∷
+    (λ w. Some (insn.Memory (memory.Word WordName.L32ai w.t w.s (pos (4 * imm8 w))))) ∷
     wide 0x00F00F 0x00F002
-    (λ w. Some (insn.Memory (memory.L32i WordName.S32ri w.t w.s (pos (4 * imm8 w))))) ∷
+    (λ w. Some (insn.Memory (memory.Word WordName.S32ri w.t w.s (pos (4 * imm8 w))))) ∷
     wide 0x00F00F 0x00E002 (λ w. Some (insn.Memory (memory.S32c1i w.t w.s (pos (4 * imm8 w))))) ∷
     wide 0xFF000F 0x090000
-    (λ w. Some (insn.Memory (memory.L32e WindowName.L32e w.t w.s (below (4 * w.r) 64)))) ∷
+    (λ w. Some (insn.Memory (memory.Window WindowName.L32e w.t w.s (below (4 * w.r) 64)))) ∷
     wide 0xFF000F 0x490000
-    (λ w. Some (insn.Memory (memory.L32e WindowName.S32e w.t w.s (below (4 * w.r) 64)))) ∷
+    (λ w. Some (insn.Memory (memory.Window WindowName.S32e w.t w.s (below (4 * w.r) 64)))) ∷
     wide 0x00000F 0x000001
     (λ w. Some (insn.Memory (memory.L32r w.t (below (4 * imm16 w) 262144)))) ∷
     wide 0x00F00F 0x00A002
@@ -277,68 +281,73 @@ abbrev pub control_rows : List Row
 control_rows =
     wide 0x00003F 0x000006 (λ w. Some (insn.Control (control.J (signed 131072 (imm18 w))))) ∷
     wide 0x00003F 0x000005
-    (λ w. Some (insn.Control (control.Call0 CallName.Call0 (signed 524288 (4 * imm18 w))))) ∷
+    (λ w. Some (insn.Control (control.Call CallName.Call0 (signed 524288 (4 * imm18 w))))) ∷
     wide 0x00003F 0x000015
-    (λ w. Some (insn.Control (control.Call0 CallName.Call4 (signed 524288 (4 * imm18 w))))) ∷
+    (λ w. Some (insn.Control (control.Call CallName.Call4 (signed 524288 (4 * imm18 w))))) ∷
     wide 0x00003F 0x000025
-    (λ w. Some (insn.Control (control.Call0 CallName.Call8 (signed 524288 (4 * imm18 w))))) ∷
+    (λ w. Some (insn.Control (control.Call CallName.Call8 (signed 524288 (4 * imm18 w))))) ∷
     wide 0x00003F 0x000035
-    (λ w. Some (insn.Control (control.Call0 CallName.Call12 (signed 524288 (4 * imm18 w))))) ∷
-    wide 0xFFFFFF 0x000080 (λ w. Some (insn.Control (control.Ret RetName.Ret))) ∷
-    wide 0xFFFFFF 0x000090 (λ w. Some (insn.Control (control.Ret RetName.Retw))) ∷
+    (λ w. Some (insn.Control (control.Call CallName.Call12 (signed 524288 (4 * imm18 w))))) ∷
+    wide 0xFFFFFF 0x000080 (λ w. Some (insn.Control (control.Return ReturnName.Ret))) ∷
+    wide 0xFFFFFF 0x000090 (λ w. Some (insn.Control (control.Return ReturnName.Retw))) ∷
     wide 0xFFF0FF 0x0000A0 (λ w. Some (insn.Control (control.Jx w.s))) ∷
-    wide 0xFFF0FF 0x0000C0 (λ w. Some (insn.Control (control.Callx0 CallxName.Callx0 w.s))) ∷
-    wide 0xFFF0FF 0x0000D0 (λ w. Some (insn.Control (control.Callx0 CallxName.Callx4 w.s))) ∷
-    wide 0xFFF0FF 0x0000E0 (λ w. Some (insn.Control (control.Callx0 CallxName.Callx8 w.s))) ∷
-    wide 0xFFF0FF 0x0000F0 (λ w. Some (insn.Control (control.Callx0 CallxName.Callx12 w.s))) ∷
+    wide 0xFFF0FF 0x0000C0 (λ w. Some (insn.Control (control.Callx CallxName.Callx0 w.s))) ∷
+    wide 0xFFF0FF 0x0000D0 (λ w. Some (insn.Control (control.Callx CallxName.Callx4 w.s))) ∷
+    wide 0xFFF0FF 0x0000E0 (λ w. Some (insn.Control (control.Callx CallxName.Callx8 w.s))) ∷
+    wide 0xFFF0FF 0x0000F0 (λ w. Some (insn.Control (control.Callx CallxName.Callx12 w.s))) ∷
     wide 0x0000FF 0x000016
-    (λ w. Some (insn.Control (control.Beqz ZeroName.Beqz w.s (signed 2048 (imm12 w))))) ∷
+    (λ w. Some (insn.Control (control.BranchZero ZeroName.Beqz w.s (signed 2048 (imm12 w))))) ∷
     wide 0x0000FF 0x000056
-    (λ w. Some (insn.Control (control.Beqz ZeroName.Bnez w.s (signed 2048 (imm12 w))))) ∷
+    (λ w. Some (insn.Control (control.BranchZero ZeroName.Bnez w.s (signed 2048 (imm12 w))))) ∷
     wide 0x0000FF 0x000096
-    (λ w. Some (insn.Control (control.Beqz ZeroName.Bltz w.s (signed 2048 (imm12 w))))) ∷
+    (λ w. Some (insn.Control (control.BranchZero ZeroName.Bltz w.s (signed 2048 (imm12 w))))) ∷
     wide 0x0000FF 0x0000D6
-    (λ w. Some (insn.Control (control.Beqz ZeroName.Bgez w.s (signed 2048 (imm12 w))))) ∷
+    (λ w. Some (insn.Control (control.BranchZero ZeroName.Bgez w.s (signed 2048 (imm12 w))))) ∷
     wide 0x0000FF 0x000026 (λ w. Some
-    (insn.Control (control.Beqi ConstName.Beqi w.s (b4const w.r) (signed 128 (imm8 w))))) ∷
+    (insn.Control (control.BranchConst ConstName.Beqi w.s (b4const w.r) (signed 128 (imm8 w))))) ∷
     wide 0x0000FF 0x000066 (λ w. Some
-    (insn.Control (control.Beqi ConstName.Bnei w.s (b4const w.r) (signed 128 (imm8 w))))) ∷
+    (insn.Control (control.BranchConst ConstName.Bnei w.s (b4const w.r) (signed 128 (imm8 w))))) ∷
     wide 0x0000FF 0x0000A6 (λ w. Some
-    (insn.Control (control.Beqi ConstName.Blti w.s (b4const w.r) (signed 128 (imm8 w))))) ∷
+    (insn.Control (control.BranchConst ConstName.Blti w.s (b4const w.r) (signed 128 (imm8 w))))) ∷
     wide 0x0000FF 0x0000E6 (λ w. Some
-    (insn.Control (control.Beqi ConstName.Bgei w.s (b4const w.r) (signed 128 (imm8 w))))) ∷
+    (insn.Control (control.BranchConst ConstName.Bgei w.s (b4const w.r) (signed 128 (imm8 w))))) ∷
     wide 0x0000FF 0x0000B6 (λ w. Some
-    (insn.Control (control.Bltui ConstuName.Bltui w.s (b4constu w.r) (signed 128 (imm8 w))))) ∷
+    (insn.Control (control.BranchConstu ConstuName.Bltui w.s (b4constu w.r)
+    (signed 128 (imm8 w))))) ∷
     wide 0x0000FF 0x0000F6 (λ w. Some
-    (insn.Control (control.Bltui ConstuName.Bgeui w.s (b4constu w.r) (signed 128 (imm8 w))))) ∷
+    (insn.Control (control.BranchConstu ConstuName.Bgeui w.s (b4constu w.r)
+    (signed 128 (imm8 w))))) ∷
     wide 0x00F00F 0x000007
-    (λ w. Some (insn.Control (control.Bnone BranchName.Bnone w.s w.t (signed 128 (imm8 w))))) ∷
+    (λ w. Some (insn.Control (control.Branch BranchName.Bnone w.s w.t (signed 128 (imm8 w))))) ∷
     wide 0x00F00F 0x001007
-    (λ w. Some (insn.Control (control.Bnone BranchName.Beq w.s w.t (signed 128 (imm8 w))))) ∷
+    (λ w. Some (insn.Control (control.Branch BranchName.Beq w.s w.t (signed 128 (imm8 w))))) ∷
     wide 0x00F00F 0x002007
-    (λ w. Some (insn.Control (control.Bnone BranchName.Blt w.s w.t (signed 128 (imm8 w))))) ∷
+    (λ w. Some (insn.Control (control.Branch BranchName.Blt w.s w.t (signed 128 (imm8 w))))) ∷
     wide 0x00F00F 0x003007
-    (λ w. Some (insn.Control (control.Bnone BranchName.Bltu w.s w.t (signed 128 (imm8 w))))) ∷
+    (λ w. Some (insn.Control (control.Branch BranchName.Bltu w.s w.t (signed 128 (imm8 w))))) ∷
     wide 0x00F00F 0x004007
-    (λ w. Some (insn.Control (control.Bnone BranchName.Ball w.s w.t (signed 128 (imm8 w))))) ∷
+    (λ w. Some (insn.Control (control.Branch BranchName.Ball w.s w.t (signed 128 (imm8 w))))) ∷
     wide 0x00F00F 0x005007
-    (λ w. Some (insn.Control (control.Bnone BranchName.Bbc w.s w.t (signed 128 (imm8 w))))) ∷
+    (λ w. Some (insn.Control (control.Branch BranchName.Bbc w.s w.t (signed 128 (imm8 w))))) ∷
     wide 0x00F00F 0x008007
-    (λ w. Some (insn.Control (control.Bany OppositeName.Bany w.s w.t (signed 128 (imm8 w))))) ∷
+    (λ w. Some (insn.Control (control.BranchNot OppositeName.Bany w.s w.t (signed 128 (imm8 w))))) ∷
     wide 0x00F00F 0x009007
-    (λ w. Some (insn.Control (control.Bany OppositeName.Bne w.s w.t (signed 128 (imm8 w))))) ∷
+    (λ w. Some (insn.Control (control.BranchNot OppositeName.Bne w.s w.t (signed 128 (imm8 w))))) ∷
     wide 0x00F00F 0x00A007
-    (λ w. Some (insn.Control (control.Bany OppositeName.Bge w.s w.t (signed 128 (imm8 w))))) ∷
+    (λ w. Some (insn.Control (control.BranchNot OppositeName.Bge w.s w.t (signed 128 (imm8 w))))) ∷
     wide 0x00F00F 0x00B007
-    (λ w. Some (insn.Control (control.Bany OppositeName.Bgeu w.s w.t (signed 128 (imm8 w))))) ∷
+    (λ w. Some (insn.Control (control.BranchNot OppositeName.Bgeu w.s w.t (signed 128 (imm8 w))))) ∷
     wide 0x00F00F 0x00C007
-    (λ w. Some (insn.Control (control.Bany OppositeName.Bnall w.s w.t (signed 128 (imm8 w))))) ∷
+    (λ w. Some
+    (insn.Control (control.BranchNot OppositeName.Bnall w.s w.t (signed 128 (imm8 w))))) ∷
     wide 0x00F00F 0x00D007
-    (λ w. Some (insn.Control (control.Bany OppositeName.Bbs w.s w.t (signed 128 (imm8 w))))) ∷
+    (λ w. Some (insn.Control (control.BranchNot OppositeName.Bbs w.s w.t (signed 128 (imm8 w))))) ∷
     wide 0x00E00F 0x006007 (λ w. Some
-    (insn.Control (control.Bbci BitName.Bbci w.s (pos (five w.t w.r)) (signed 128 (imm8 w))))) ∷
+    (insn.Control (control.BranchBit BitName.Bbci w.s (pos (five w.t w.r))
+    (signed 128 (imm8 w))))) ∷
     wide 0x00E00F 0x00E007 (λ w. Some
-    (insn.Control (control.Bbci BitName.Bbsi w.s (pos (five w.t w.r)) (signed 128 (imm8 w))))) ∷
+    (insn.Control (control.BranchBit BitName.Bbsi w.s (pos (five w.t w.r))
+    (signed 128 (imm8 w))))) ∷
     wide 0x0000FF 0x000036 (λ w. Some (insn.Control (control.Entry w.s (pos (8 * imm12 w))))) ∷
     wide 0x00F0FF 0x008076
     (λ w. Some (insn.Control (control.Loop LoopName.Loop w.s (pos (imm8 w))))) ∷
@@ -351,62 +360,68 @@ control_rows =
 -- System instructions.
 abbrev pub system_rows : List Row
 system_rows =
-    wide 0xFFFFFF 0x000000 (λ w. Some (insn.System (system.Ill SyncName.Ill))) ∷
-    wide 0xFFFFFF 0x002000 (λ w. Some (insn.System (system.Ill SyncName.Isync))) ∷
-    wide 0xFFFFFF 0x002010 (λ w. Some (insn.System (system.Ill SyncName.Rsync))) ∷
-    wide 0xFFFFFF 0x002020 (λ w. Some (insn.System (system.Ill SyncName.Esync))) ∷
-    wide 0xFFFFFF 0x002030 (λ w. Some (insn.System (system.Ill SyncName.Dsync))) ∷
-    wide 0xFFFFFF 0x002080 (λ w. Some (insn.System (system.Excw WaitName.Excw))) ∷
-    wide 0xFFFFFF 0x0020C0 (λ w. Some (insn.System (system.Excw WaitName.Memw))) ∷
-    wide 0xFFFFFF 0x0020D0 (λ w. Some (insn.System (system.Excw WaitName.Extw))) ∷
-    wide 0xFFFFFF 0x0020F0 (λ w. Some (insn.System (system.Excw WaitName.Nop))) ∷
-    wide 0xFFFFFF 0x003000 (λ w. Some (insn.System (system.Rfe ReturnName.Rfe))) ∷
-    wide 0xFFFFFF 0x003200 (λ w. Some (insn.System (system.Rfe ReturnName.Rfde))) ∷
-    wide 0xFFFFFF 0x003400 (λ w. Some (insn.System (system.Rfe ReturnName.Rfwo))) ∷
-    wide 0xFFFFFF 0x003500 (λ w. Some (insn.System (system.Rfe ReturnName.Rfwu))) ∷
+    wide 0xFFFFFF 0x000000 (λ w. Some (insn.System (system.Sync SyncName.Ill))) ∷
+    wide 0xFFFFFF 0x002000 (λ w. Some (insn.System (system.Sync SyncName.Isync))) ∷
+    wide 0xFFFFFF 0x002010 (λ w. Some (insn.System (system.Sync SyncName.Rsync))) ∷
+    wide 0xFFFFFF 0x002020 (λ w. Some (insn.System (system.Sync SyncName.Esync))) ∷
+    wide 0xFFFFFF 0x002030 (λ w. Some (insn.System (system.Sync SyncName.Dsync))) ∷
+    wide 0xFFFFFF 0x002080 (λ w. Some (insn.System (system.Wait WaitName.Excw))) ∷
+    wide 0xFFFFFF 0x0020C0 (λ w. Some (insn.System (system.Wait WaitName.Memw))) ∷
+    wide 0xFFFFFF 0x0020D0 (λ w. Some (insn.System (system.Wait WaitName.Extw))) ∷
+    wide 0xFFFFFF 0x0020F0 (λ w. Some (insn.System (system.Wait WaitName.Nop))) ∷
+    wide 0xFFFFFF 0x003000
+    (λ w. Some (insn.System (system.ExceptionReturn ExceptionReturnName.Rfe))) ∷
+    wide 0xFFFFFF 0x003200
+    (λ w. Some (insn.System (system.ExceptionReturn ExceptionReturnName.Rfde))) ∷
+    wide 0xFFFFFF 0x003400
+    (λ w. Some (insn.System (system.ExceptionReturn ExceptionReturnName.Rfwo))) ∷
+    wide 0xFFFFFF 0x003500
+    (λ w. Some (insn.System (system.ExceptionReturn ExceptionReturnName.Rfwu))) ∷
     wide 0xFFF0FF 0x003010 (λ w. if nat_lt 1 w.s && nat_lt w.s 8
     then Some (insn.System (system.Rfi (pos w.s)))
     else None) ∷
     wide 0xFFF00F 0x004000
-    (λ w. Some (insn.System (system.Break BreakName.Break (pos w.s) (pos w.t)))) ∷
+    (λ w. Some (insn.System (system.Trap TrapName.Break (pos w.s) (pos w.t)))) ∷
     wide 0xFFFFFF 0x005000
-    (λ w. Some (insn.System (system.Break BreakName.Syscall (pos 0) (pos 0)))) ∷
-    wide 0xFFF00F 0x006000 (λ w. Some (insn.System (system.Rsil LevelName.Rsil w.t (pos w.s)))) ∷
-    wide 0xFFF0FF 0x007000 (λ w. Some (insn.System (system.Rsil LevelName.Waiti 0 (pos w.s)))) ∷
+    (λ w. Some (insn.System (system.Trap TrapName.Syscall (pos 0) (pos 0)))) ∷
+    wide 0xFFF00F 0x006000 (λ w. Some (insn.System (system.Level LevelName.Rsil w.t (pos w.s)))) ∷
+    wide 0xFFF0FF 0x007000 (λ w. Some (insn.System (system.Level LevelName.Waiti 0 (pos w.s)))) ∷
     wide 0xFFFF0F 0x408000 (λ w. Some (insn.System (system.Rotw (signed 8 w.t)))) ∷
     wide 0xFF000F 0x030000 (λ w. if can_read (eight w)
-    then Some (insn.System (system.Rsr SpecialName.Rsr w.t (eight w)))
+    then Some (insn.System (system.Special SpecialName.Rsr w.t (eight w)))
     else None) ∷
     wide 0xFF000F 0x130000 (λ w. if can_write (eight w)
-    then Some (insn.System (system.Rsr SpecialName.Wsr w.t (eight w)))
+    then Some (insn.System (system.Special SpecialName.Wsr w.t (eight w)))
     else None) ∷
     wide 0xFF000F 0x610000 (λ w. if can_exchange (eight w)
-    then Some (insn.System (system.Rsr SpecialName.Xsr w.t (eight w)))
+    then Some (insn.System (system.Special SpecialName.Xsr w.t (eight w)))
     else None) ∷
-    wide 0xFF0FFF 0xE30E70 (λ w. Some (insn.System (system.Rur UserName.Rur w.r threadptr))) ∷
-    wide 0xFFFF0F 0xF3E700 (λ w. Some (insn.System (system.Rur UserName.Wur w.t threadptr))) ∷
+    wide 0xFF0FFF 0xE30E70 (λ w. Some (insn.System (system.User UserName.Rur w.r threadptr))) ∷
+    wide 0xFFFF0F 0xF3E700 (λ w. Some (insn.System (system.User UserName.Wur w.t threadptr))) ∷
     []
 
 -- The 16-bit instructions.
 abbrev pub density_rows : List Row
 density_rows =
     narrow 0x00000F 0x000008
-    (λ w. Some (insn.Density (density.L32i NarrowName.L32i w.t w.s (pos (4 * w.r))))) ∷
+    (λ w. Some (insn.Density (density.Word NarrowName.L32i w.t w.s (pos (4 * w.r))))) ∷
     narrow 0x00000F 0x000009
-    (λ w. Some (insn.Density (density.L32i NarrowName.S32i w.t w.s (pos (4 * w.r))))) ∷
+    (λ w. Some (insn.Density (density.Word NarrowName.S32i w.t w.s (pos (4 * w.r))))) ∷
     narrow 0x00000F 0x00000A (λ w. Some (insn.Density (density.Add w.r w.s w.t))) ∷
     narrow 0x00000F 0x00000B (λ w. Some (insn.Density (density.Addi w.r w.s (minus_one_or w.t)))) ∷
     narrow 0x00008F 0x00000C
     (λ w. Some (insn.Density (density.Movi w.s (narrow_constant (w.r + 16 * (w.t % 8)))))) ∷
     narrow 0x0000CF 0x00008C
-    (λ w. Some (insn.Density (density.Beqz NarrowZeroName.Beqz w.s (pos (w.r + 16 * (w.t % 4)))))) ∷
+    (λ w. Some
+    (insn.Density (density.BranchZero NarrowZeroName.Beqz w.s (pos (w.r + 16 * (w.t % 4)))))) ∷
     narrow 0x0000CF 0x0000CC
-    (λ w. Some (insn.Density (density.Beqz NarrowZeroName.Bnez w.s (pos (w.r + 16 * (w.t % 4)))))) ∷
+    (λ w. Some
+    (insn.Density (density.BranchZero NarrowZeroName.Bnez w.s (pos (w.r + 16 * (w.t % 4)))))) ∷
     narrow 0x00F00F 0x00000D (λ w. Some (insn.Density (density.Mov w.t w.s))) ∷
-    narrow 0x00FFFF 0x00F00D (λ w. Some (insn.Density (density.Ret NarrowRetName.Ret))) ∷
-    narrow 0x00FFFF 0x00F01D (λ w. Some (insn.Density (density.Ret NarrowRetName.Retw))) ∷
-    narrow 0x00FFFF 0x00F03D (λ w. Some (insn.Density (density.Ret NarrowRetName.Nop))) ∷
-    narrow 0x00FFFF 0x00F06D (λ w. Some (insn.Density (density.Ret NarrowRetName.Ill))) ∷
+    narrow 0x00FFFF 0x00F00D (λ w. Some (insn.Density (density.Bare BareName.Ret))) ∷
+    narrow 0x00FFFF 0x00F01D (λ w. Some (insn.Density (density.Bare BareName.Retw))) ∷
+    narrow 0x00FFFF 0x00F03D (λ w. Some (insn.Density (density.Bare BareName.Nop))) ∷
+    narrow 0x00FFFF 0x00F06D (λ w. Some (insn.Density (density.Bare BareName.Ill))) ∷
     narrow 0x00F0FF 0x00F02D (λ w. Some (insn.Density (density.Break (pos w.s)))) ∷
     []
 
@@ -414,29 +429,29 @@ density_rows =
 -- that other words spell nothing is this project's own choice ('profile').
 abbrev pub boolean_rows : List Row
 boolean_rows =
-    wide 0xFF000F 0x020000 (λ w. Some (insn.Boolean (boolean.Andb LogicName.Andb w.r w.s w.t))) ∷
-    wide 0xFF000F 0x120000 (λ w. Some (insn.Boolean (boolean.Andb LogicName.Andbc w.r w.s w.t))) ∷
-    wide 0xFF000F 0x220000 (λ w. Some (insn.Boolean (boolean.Andb LogicName.Orb w.r w.s w.t))) ∷
-    wide 0xFF000F 0x320000 (λ w. Some (insn.Boolean (boolean.Andb LogicName.Orbc w.r w.s w.t))) ∷
-    wide 0xFF000F 0x420000 (λ w. Some (insn.Boolean (boolean.Andb LogicName.Xorb w.r w.s w.t))) ∷
+    wide 0xFF000F 0x020000 (λ w. Some (insn.Boolean (boolean.Logic LogicName.Andb w.r w.s w.t))) ∷
+    wide 0xFF000F 0x120000 (λ w. Some (insn.Boolean (boolean.Logic LogicName.Andbc w.r w.s w.t))) ∷
+    wide 0xFF000F 0x220000 (λ w. Some (insn.Boolean (boolean.Logic LogicName.Orb w.r w.s w.t))) ∷
+    wide 0xFF000F 0x320000 (λ w. Some (insn.Boolean (boolean.Logic LogicName.Orbc w.r w.s w.t))) ∷
+    wide 0xFF000F 0x420000 (λ w. Some (insn.Boolean (boolean.Logic LogicName.Xorb w.r w.s w.t))) ∷
     wide 0xFFF00F 0x008000 (λ w. if w.s % 4 == 0
-    then Some (insn.Boolean (boolean.Any4 FourName.Any4 w.t w.s))
+    then Some (insn.Boolean (boolean.Four FourName.Any4 w.t w.s))
     else None) ∷
     wide 0xFFF00F 0x009000 (λ w. if w.s % 4 == 0
-    then Some (insn.Boolean (boolean.Any4 FourName.All4 w.t w.s))
+    then Some (insn.Boolean (boolean.Four FourName.All4 w.t w.s))
     else None) ∷
     wide 0xFFF00F 0x00A000 (λ w. if w.s % 8 == 0
-    then Some (insn.Boolean (boolean.Any8 EightName.Any8 w.t w.s))
+    then Some (insn.Boolean (boolean.Eight EightName.Any8 w.t w.s))
     else None) ∷
     wide 0xFFF00F 0x00B000 (λ w. if w.s % 8 == 0
-    then Some (insn.Boolean (boolean.Any8 EightName.All8 w.t w.s))
+    then Some (insn.Boolean (boolean.Eight EightName.All8 w.t w.s))
     else None) ∷
     wide 0x00F0FF 0x000076
-    (λ w. Some (insn.Boolean (boolean.Bf TestName.Bf w.s (signed 128 (imm8 w))))) ∷
+    (λ w. Some (insn.Boolean (boolean.Test TestName.Bf w.s (signed 128 (imm8 w))))) ∷
     wide 0x00F0FF 0x001076
-    (λ w. Some (insn.Boolean (boolean.Bf TestName.Bt w.s (signed 128 (imm8 w))))) ∷
-    wide 0xFF000F 0xC30000 (λ w. Some (insn.Boolean (boolean.Movf ChoiceName.Movf w.r w.s w.t))) ∷
-    wide 0xFF000F 0xD30000 (λ w. Some (insn.Boolean (boolean.Movf ChoiceName.Movt w.r w.s w.t))) ∷
+    (λ w. Some (insn.Boolean (boolean.Test TestName.Bt w.s (signed 128 (imm8 w))))) ∷
+    wide 0xFF000F 0xC30000 (λ w. Some (insn.Boolean (boolean.Choice ChoiceName.Movf w.r w.s w.t))) ∷
+    wide 0xFF000F 0xD30000 (λ w. Some (insn.Boolean (boolean.Choice ChoiceName.Movt w.r w.s w.t))) ∷
     []
 
 abbrev pub joined_rows : List Row → List Row → List Row

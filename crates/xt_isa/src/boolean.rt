@@ -46,13 +46,13 @@ pub enum ChoiceName {
 #[derive(Clone, Copy)]
 pub enum Boolean {
     /// ANDB, ANDBC, ORB, ORBC, XORB `br, bs, bt`: opcode map RST2, op2 0 to 4.
-    Andb(LogicName, u8, u8, u8),
+    Logic(LogicName, u8, u8, u8),
     /// ANY4, ALL4 `bt, bs`: opcode map ST0, r 8 and 9. The register s is the first of four, and a multiple of 4.
-    Any4(FourName, u8, u8),
+    Four(FourName, u8, u8),
     /// ANY8, ALL8 `bt, bs`: opcode map ST0, r 10 and 11. The register s is the first of eight, and a multiple of 8.
-    Any8(EightName, u8, u8),
+    Eight(EightName, u8, u8),
     /// BF, BT `bs, target`: opcode map B1, r 0 and 1. The offset is -128 to 127 bytes from PC + 4.
-    Bf(TestName, u8, i32),
+    Test(TestName, u8, i32),
     /// MOVF, MOVT `ar, as, bt`: opcode map RST3, op2 12 and 13. The registers r and s are address registers.
-    Movf(ChoiceName, u8, u8, u8),
+    Choice(ChoiceName, u8, u8, u8),
 }

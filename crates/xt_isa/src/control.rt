@@ -15,7 +15,7 @@ pub enum CallName {
 
 /// The names of the line of returns, plain and with windows.
 #[derive(Clone, Copy)]
-pub enum RetName {
+pub enum ReturnName {
     Ret,
     Retw,
 }
@@ -98,27 +98,27 @@ pub enum Control {
     /// J `target`: opcode map SI, n 0. The offset is -131072 to 131071.
     J(i32),
     /// CALL0, CALL4, CALL8, CALL12 `target`: opcode map CALLN. The offset is -524288 to 524284 in fours.
-    Call0(CallName, i32),
+    Call(CallName, i32),
     /// RET, RETW: opcode map JR, n 0 and 1.
-    Ret(RetName),
+    Return(ReturnName),
     /// JX `as`: opcode map JR, n 2.
     Jx(u8),
     /// CALLX0, CALLX4, CALLX8, CALLX12 `as`: opcode map CALLX.
-    Callx0(CallxName, u8),
+    Callx(CallxName, u8),
     /// BEQZ, BNEZ, BLTZ, BGEZ `as, target`: opcode map BZ. The offset is -2048 to 2047.
-    Beqz(ZeroName, u8, i32),
+    BranchZero(ZeroName, u8, i32),
     /// BEQI, BNEI, BLTI, BGEI `as, c, target`: opcode map BI0. The constant c is one of the sixteen signed branch
     /// constants; the offset is -128 to 127.
-    Beqi(ConstName, u8, i32, i32),
+    BranchConst(ConstName, u8, i32, i32),
     /// BLTUI, BGEUI `as, c, target`: opcode map BI1, m 2 and 3. The constant c is one of the sixteen unsigned branch
     /// constants; the offset is -128 to 127.
-    Bltui(ConstuName, u8, i32, i32),
+    BranchConstu(ConstuName, u8, i32, i32),
     /// BNONE, BEQ, BLT, BLTU, BALL, BBC `as, at, target`: opcode map B, r 0 to 5. The offset is -128 to 127.
-    Bnone(BranchName, u8, u8, i32),
+    Branch(BranchName, u8, u8, i32),
     /// BANY, BNE, BGE, BGEU, BNALL, BBS `as, at, target`: opcode map B, r 8 to 13. The offset is -128 to 127.
-    Bany(OppositeName, u8, u8, i32),
+    BranchNot(OppositeName, u8, u8, i32),
     /// BBCI, BBSI `as, b, target`: opcode map B, r 6, 7, 14 and 15. The bit b is 0 to 31; the offset is -128 to 127.
-    Bbci(BitName, u8, i32, i32),
+    BranchBit(BitName, u8, i32, i32),
     /// ENTRY `as, n`: opcode map BI1, m 0. The number n is 0 to 32760 bytes in eights.
     Entry(u8, i32),
     /// LOOP, LOOPNEZ, LOOPGTZ `as, target`: opcode map B1, r 8 to 10. The offset is 0 to 255.

@@ -20,7 +20,7 @@ pub enum NarrowZeroName {
 
 /// The names of the line of narrow instructions without operands: RET.N, RETW.N, NOP.N, ILL.N.
 #[derive(Clone, Copy)]
-pub enum NarrowRetName {
+pub enum BareName {
     Ret,
     Retw,
     Nop,
@@ -31,7 +31,7 @@ pub enum NarrowRetName {
 #[derive(Clone, Copy)]
 pub enum Density {
     /// L32I.N, S32I.N `at, as, off`: op0 8 and 9. The offset is 0 to 60 bytes in fours, four times r.
-    L32i(NarrowName, u8, u8, i32),
+    Word(NarrowName, u8, u8, i32),
     /// ADD.N `ar, as, at`: op0 10.
     Add(u8, u8, u8),
     /// ADDI.N `ar, as, n`: op0 11. The number n is -1 or 1 to 15; -1 is kept as t 0.
@@ -39,11 +39,11 @@ pub enum Density {
     /// MOVI.N `as, n`: opcode map ST2, t 0 to 7. The number n is -32 to 95, kept in r and the low three bits of t.
     Movi(u8, i32),
     /// BEQZ.N, BNEZ.N `as, target`: opcode map ST2, t 8 to 15. The offset is 0 to 63 bytes from PC + 4.
-    Beqz(NarrowZeroName, u8, i32),
+    BranchZero(NarrowZeroName, u8, i32),
     /// MOV.N `at, as`: opcode map ST3, r 0.
     Mov(u8, u8),
     /// RET.N, RETW.N, NOP.N, ILL.N: opcode map S3, t 0, 1, 3 and 6, with s 0.
-    Ret(NarrowRetName),
+    Bare(BareName),
     /// BREAK.N `n`: opcode map S3, t 2. The number n is 0 to 15, kept in s.
     Break(i32),
 }

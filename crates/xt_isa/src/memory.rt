@@ -39,15 +39,15 @@ pub enum WindowName {
 #[derive(Clone, Copy)]
 pub enum Memory {
     /// L8UI, S8I `at, as, off`: opcode map LSAI, r 0 and 4. The offset is 0 to 255 bytes.
-    L8ui(ByteName, u8, u8, i32),
+    Byte(ByteName, u8, u8, i32),
     /// L16UI, L16SI, S16I `at, as, off`: opcode map LSAI, r 1, 9 and 5. The offset is 0 to 510 bytes in twos.
-    L16ui(HalfName, u8, u8, i32),
+    Half(HalfName, u8, u8, i32),
     /// L32I, S32I, L32AI, S32RI `at, as, off`: opcode map LSAI, r 2, 6, 11 and 15. The offset is 0 to 1020 bytes in fours.
-    L32i(WordName, u8, u8, i32),
+    Word(WordName, u8, u8, i32),
     /// S32C1I `at, as, off`: opcode map LSAI, r 14. The offset is 0 to 1020 bytes in fours.
     S32c1i(u8, u8, i32),
     /// L32E, S32E `at, as, off`: opcode map LSC4, op2 0 and 4. The offset is -64 to -4 bytes in fours.
-    L32e(WindowName, u8, u8, i32),
+    Window(WindowName, u8, u8, i32),
     /// L32R `at, target`: op0 1. The offset is -262144 to -4 bytes in fours, from PC + 3 rounded down to a multiple of 4.
     L32r(u8, i32),
     /// MOVI `at, n`: opcode map LSAI, r 10. The number n is -2048 to 2047; its high four bits are s.

@@ -5,42 +5,42 @@
 
 /// The names of the line of two's complement: the negative, and the absolute value.
 #[derive(Clone, Copy)]
-pub enum NegName {
+pub enum SignName {
     Neg,
     Abs,
 }
 
 /// The names of the line of right shifts by SAR, logical or arithmetic.
 #[derive(Clone, Copy)]
-pub enum SrlName {
+pub enum ShiftRightName {
     Srl,
     Sra,
 }
 
 /// The names of the line of sign extension and clamping.
 #[derive(Clone, Copy)]
-pub enum SextName {
+pub enum SignedName {
     Sext,
     Clamps,
 }
 
 /// The names of the line of counts of leading bits, signed or unsigned.
 #[derive(Clone, Copy)]
-pub enum NsaName {
+pub enum NormalizeName {
     Nsa,
     Nsau,
 }
 
 /// The names of the line that sets SAR for a shift to the right or to the left.
 #[derive(Clone, Copy)]
-pub enum SsrName {
+pub enum AmountName {
     Ssr,
     Ssl,
 }
 
 /// The names of the line that sets SAR for the alignment of bytes, little-endian or big-endian.
 #[derive(Clone, Copy)]
-pub enum Ssa8Name {
+pub enum ByteAmountName {
     Ssa8l,
     Ssa8b,
 }
@@ -49,9 +49,9 @@ pub enum Ssa8Name {
 #[derive(Clone, Copy)]
 pub enum Shift {
     /// NEG, ABS `ar, at`: opcode map RT0.
-    Neg(NegName, u8, u8),
+    Sign(SignName, u8, u8),
     /// SRL, SRA `ar, at`: opcode map RST1, op2 9 and 11, with s 0.
-    Srl(SrlName, u8, u8),
+    ShiftRight(ShiftRightName, u8, u8),
     /// SLL `ar, as`: opcode map RST1, op2 10, with t 0.
     Sll(u8, u8),
     /// SLLI `ar, as, n`: opcode map RST1, op2 0 and 1. The amount n is 1 to 31; 32 - n is kept in t and the low bit of op2.
@@ -64,15 +64,15 @@ pub enum Shift {
     /// width w is 1 to 16, and op2 is w - 1.
     Extui(u8, u8, i32, i32),
     /// SEXT, CLAMPS `ar, as, b`: opcode map RST3, op2 2 and 3. The bit b is 7 to 22, and t is b - 7.
-    Sext(SextName, u8, u8, i32),
+    Signed(SignedName, u8, u8, i32),
     /// NSA, NSAU `at, as`: opcode map ST1, r 14 and 15.
-    Nsa(NsaName, u8, u8),
+    Normalize(NormalizeName, u8, u8),
     /// MOVSP `at, as`: opcode map ST0, r 1.
     Movsp(u8, u8),
     /// SSR, SSL `as`: opcode map ST1, r 0 and 1, with t 0.
-    Ssr(SsrName, u8),
+    Amount(AmountName, u8),
     /// SSA8L, SSA8B `as`: opcode map ST1, r 2 and 3, with t 0.
-    Ssa8l(Ssa8Name, u8),
+    ByteAmount(ByteAmountName, u8),
     /// SSAI `n`: opcode map ST1, r 4. The amount n is 0 to 31, kept in s and the low bit of t.
     Ssai(i32),
 }

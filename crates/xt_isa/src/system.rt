@@ -24,7 +24,7 @@ pub enum WaitName {
 
 /// The names of the line of returns from exceptions and from window exception handlers.
 #[derive(Clone, Copy)]
-pub enum ReturnName {
+pub enum ExceptionReturnName {
     Rfe,
     Rfde,
     Rfwo,
@@ -33,7 +33,7 @@ pub enum ReturnName {
 
 /// The names of the line of BREAK and SYSCALL.
 #[derive(Clone, Copy)]
-pub enum BreakName {
+pub enum TrapName {
     Break,
     Syscall,
 }
@@ -65,22 +65,22 @@ pub enum UserName {
 #[derive(Clone, Copy)]
 pub enum System {
     /// ILL, ISYNC, RSYNC, ESYNC, DSYNC: opcode maps SNM0 and SYNC.
-    Ill(SyncName),
+    Sync(SyncName),
     /// EXCW, MEMW, EXTW, NOP: opcode map SYNC, t 8, 12, 13 and 15.
-    Excw(WaitName),
+    Wait(WaitName),
     /// RFE, RFDE, RFWO, RFWU: opcode map RFET, s 0, 2, 4 and 5.
-    Rfe(ReturnName),
+    ExceptionReturn(ExceptionReturnName),
     /// RFI `l`: opcode map RFEI, t 1. The level l is 2 to 7, kept in s.
     Rfi(i32),
     /// BREAK `x, y` and SYSCALL: opcode map ST0, r 4 and 5. Of BREAK the numbers x and y are 0 to 15, kept in s and t.
-    Break(BreakName, i32, i32),
+    Trap(TrapName, i32, i32),
     /// RSIL `at, l` and WAITI `l`: opcode map ST0, r 6 and 7. The level l is 0 to 15, kept in s.
-    Rsil(LevelName, u8, i32),
+    Level(LevelName, u8, i32),
     /// ROTW `n`: opcode map ST1, r 8. The number n is -8 to 7, kept in t.
     Rotw(i32),
     /// RSR, WSR, XSR `at, name`: opcode maps RST3 and RST1. The second number is the special register's, which has this
     /// access; it is kept in s and r.
-    Rsr(SpecialName, u8, u8),
+    Special(SpecialName, u8, u8),
     /// RUR `ar, threadptr` and WUR `at, threadptr`: opcode map RST3, op2 14 and 15. The second number is 231, THREADPTR.
-    Rur(UserName, u8, u8),
+    User(UserName, u8, u8),
 }

@@ -5,7 +5,7 @@
 
 /// The names of the line of bitwise operations.
 #[derive(Clone, Copy)]
-pub enum AndName {
+pub enum BitwiseName {
     And,
     Or,
     Xor,
@@ -13,7 +13,7 @@ pub enum AndName {
 
 /// The names of the line of sums: AR[s] times 1, 2, 4 or 8, plus AR[t].
 #[derive(Clone, Copy)]
-pub enum AddName {
+pub enum SumName {
     Add,
     Addx2,
     Addx4,
@@ -22,7 +22,7 @@ pub enum AddName {
 
 /// The names of the line of differences: AR[s] times 1, 2, 4 or 8, minus AR[t].
 #[derive(Clone, Copy)]
-pub enum SubName {
+pub enum DifferenceName {
     Sub,
     Subx2,
     Subx4,
@@ -54,7 +54,7 @@ pub enum DivideName {
 
 /// The names of the line of the lesser and the greater number, signed or unsigned.
 #[derive(Clone, Copy)]
-pub enum MinName {
+pub enum MinMaxName {
     Min,
     Max,
     Minu,
@@ -75,23 +75,23 @@ pub enum MoveName {
 #[derive(Clone, Copy)]
 pub enum Three {
     /// AND, OR, XOR: opcode map RST0, op2 1 to 3.
-    And(AndName, u8, u8, u8),
+    Bitwise(BitwiseName, u8, u8, u8),
     /// ADD, ADDX2, ADDX4, ADDX8: opcode map RST0, op2 8 to 11.
-    Add(AddName, u8, u8, u8),
+    Sum(SumName, u8, u8, u8),
     /// SUB, SUBX2, SUBX4, SUBX8: opcode map RST0, op2 12 to 15.
-    Sub(SubName, u8, u8, u8),
+    Difference(DifferenceName, u8, u8, u8),
     /// SRC: opcode map RST1, op2 8.
     Src(u8, u8, u8),
     /// MUL16U, MUL16S: opcode map RST1, op2 12 and 13.
-    Mul16u(Mul16Name, u8, u8, u8),
+    Mul16(Mul16Name, u8, u8, u8),
     /// MULL: opcode map RST2, op2 8.
     Mull(u8, u8, u8),
     /// MULUH, MULSH: opcode map RST2, op2 10 and 11.
-    Muluh(MulHighName, u8, u8, u8),
+    MulHigh(MulHighName, u8, u8, u8),
     /// QUOU, QUOS, REMU, REMS: opcode map RST2, op2 12 to 15.
-    Quou(DivideName, u8, u8, u8),
+    Divide(DivideName, u8, u8, u8),
     /// MIN, MAX, MINU, MAXU: opcode map RST3, op2 4 to 7.
-    Min(MinName, u8, u8, u8),
+    MinMax(MinMaxName, u8, u8, u8),
     /// MOVEQZ, MOVNEZ, MOVLTZ, MOVGEZ: opcode map RST3, op2 8 to 11.
-    Moveqz(MoveName, u8, u8, u8),
+    Move(MoveName, u8, u8, u8),
 }

@@ -41,7 +41,7 @@ fn is_either(a: bool, b: bool) -> bool
 fn intenable(view: &FrameRegisters) -> u32
     ensures { result ≡ special_of view.now.control numbers.intenable }
 {
-    view.special_read(Insn::System(System::Rsr(SpecialName::Rsr, 0, number::INTENABLE)))
+    view.special_read(Insn::System(System::Special(SpecialName::Rsr, 0, number::INTENABLE)))
 }
 
 /// Whether a core's next step of the frame machine uses time.

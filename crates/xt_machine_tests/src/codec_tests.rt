@@ -63,12 +63,12 @@ fn out_of_range(rt: HostRuntime) {
         Insn::Control(Control::J(131072)),
         Insn::Control(Control::Entry(1, 32768)),
         Insn::System(System::Rfi(1)),
-        Insn::System(System::Rsr(SpecialName::Xsr, 1, 226)),
+        Insn::System(System::Special(SpecialName::Xsr, 1, 226)),
         Insn::Density(Density::Addi(1, 2, 0)),
         Insn::Density(Density::Movi(1, 96)),
-        Insn::Boolean(Boolean::Any4(FourName::All4, 1, 2)),
-        Insn::Boolean(Boolean::Any8(EightName::Any8, 1, 12)),
-        Insn::Boolean(Boolean::Bf(TestName::Bt, 1, 128)),
+        Insn::Boolean(Boolean::Four(FourName::All4, 1, 2)),
+        Insn::Boolean(Boolean::Eight(EightName::Any8, 1, 12)),
+        Insn::Boolean(Boolean::Test(TestName::Bt, 1, 128)),
     ] {
         assert!(rt; !fits(&insn));
     }

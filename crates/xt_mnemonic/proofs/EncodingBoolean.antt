@@ -15,17 +15,17 @@ use Rattle.xt_mnemonic.proofs.EncodingControl.{near}
 use Rattle.xt_mnemonic.proofs.EncodingParts.{GivesBack, IsEncoded, Matches, digit0, full, guarded, rest1, word_is, sized}
 use Rattle.xt_mnemonic.proofs.EncodingFormats.{all_three, in_ts}
 
-any4 : (w : Fields) → AreNibbles w → IsPadded w → Matches 0xFFF00F 0x008000 w → GivesBack w (cond (eqb (w.s % 4) 0) (Some (insn.Boolean (boolean.Any4 FourName.Any4 w.t w.s))) None)
-any4 w n p m = guarded (eqb (w.s % 4) 0) (insn.Boolean (boolean.Any4 FourName.Any4 w.t w.s)) w (λ h. in_ts w n p m)
+any4 : (w : Fields) → AreNibbles w → IsPadded w → Matches 0xFFF00F 0x008000 w → GivesBack w (cond (eqb (w.s % 4) 0) (Some (insn.Boolean (boolean.Four FourName.Any4 w.t w.s))) None)
+any4 w n p m = guarded (eqb (w.s % 4) 0) (insn.Boolean (boolean.Four FourName.Any4 w.t w.s)) w (λ h. in_ts w n p m)
 
-all4 : (w : Fields) → AreNibbles w → IsPadded w → Matches 0xFFF00F 0x009000 w → GivesBack w (cond (eqb (w.s % 4) 0) (Some (insn.Boolean (boolean.Any4 FourName.All4 w.t w.s))) None)
-all4 w n p m = guarded (eqb (w.s % 4) 0) (insn.Boolean (boolean.Any4 FourName.All4 w.t w.s)) w (λ h. in_ts w n p m)
+all4 : (w : Fields) → AreNibbles w → IsPadded w → Matches 0xFFF00F 0x009000 w → GivesBack w (cond (eqb (w.s % 4) 0) (Some (insn.Boolean (boolean.Four FourName.All4 w.t w.s))) None)
+all4 w n p m = guarded (eqb (w.s % 4) 0) (insn.Boolean (boolean.Four FourName.All4 w.t w.s)) w (λ h. in_ts w n p m)
 
-any8 : (w : Fields) → AreNibbles w → IsPadded w → Matches 0xFFF00F 0x00A000 w → GivesBack w (cond (eqb (w.s % 8) 0) (Some (insn.Boolean (boolean.Any8 EightName.Any8 w.t w.s))) None)
-any8 w n p m = guarded (eqb (w.s % 8) 0) (insn.Boolean (boolean.Any8 EightName.Any8 w.t w.s)) w (λ h. in_ts w n p m)
+any8 : (w : Fields) → AreNibbles w → IsPadded w → Matches 0xFFF00F 0x00A000 w → GivesBack w (cond (eqb (w.s % 8) 0) (Some (insn.Boolean (boolean.Eight EightName.Any8 w.t w.s))) None)
+any8 w n p m = guarded (eqb (w.s % 8) 0) (insn.Boolean (boolean.Eight EightName.Any8 w.t w.s)) w (λ h. in_ts w n p m)
 
-all8 : (w : Fields) → AreNibbles w → IsPadded w → Matches 0xFFF00F 0x00B000 w → GivesBack w (cond (eqb (w.s % 8) 0) (Some (insn.Boolean (boolean.Any8 EightName.All8 w.t w.s))) None)
-all8 w n p m = guarded (eqb (w.s % 8) 0) (insn.Boolean (boolean.Any8 EightName.All8 w.t w.s)) w (λ h. in_ts w n p m)
+all8 : (w : Fields) → AreNibbles w → IsPadded w → Matches 0xFFF00F 0x00B000 w → GivesBack w (cond (eqb (w.s % 8) 0) (Some (insn.Boolean (boolean.Eight EightName.All8 w.t w.s))) None)
+all8 w n p m = guarded (eqb (w.s % 8) 0) (insn.Boolean (boolean.Eight EightName.All8 w.t w.s)) w (λ h. in_ts w n p m)
 
 test : {v : ℕ} (w : Fields) → AreNibbles w → IsPadded w → Matches 0x00F0FF v w → of_s8 v w.s (unsigned 128 (signed 128 (imm8 w))) ≡ w
 test w n p m =
@@ -38,10 +38,10 @@ boolean_encoded =
     (all_three, λ w. refl) ▸  -- ORB
     (all_three, λ w. refl) ▸  -- ORBC
     (all_three, λ w. refl) ▸  -- XORB
-    (any4, λ w. sized (eqb (w.s % 4) 0) (insn.Boolean (boolean.Any4 FourName.Any4 w.t w.s)) 3 refl) ▸  -- ANY4
-    (all4, λ w. sized (eqb (w.s % 4) 0) (insn.Boolean (boolean.Any4 FourName.All4 w.t w.s)) 3 refl) ▸  -- ALL4
-    (any8, λ w. sized (eqb (w.s % 8) 0) (insn.Boolean (boolean.Any8 EightName.Any8 w.t w.s)) 3 refl) ▸  -- ANY8
-    (all8, λ w. sized (eqb (w.s % 8) 0) (insn.Boolean (boolean.Any8 EightName.All8 w.t w.s)) 3 refl) ▸  -- ALL8
+    (any4, λ w. sized (eqb (w.s % 4) 0) (insn.Boolean (boolean.Four FourName.Any4 w.t w.s)) 3 refl) ▸  -- ANY4
+    (all4, λ w. sized (eqb (w.s % 4) 0) (insn.Boolean (boolean.Four FourName.All4 w.t w.s)) 3 refl) ▸  -- ALL4
+    (any8, λ w. sized (eqb (w.s % 8) 0) (insn.Boolean (boolean.Eight EightName.Any8 w.t w.s)) 3 refl) ▸  -- ANY8
+    (all8, λ w. sized (eqb (w.s % 8) 0) (insn.Boolean (boolean.Eight EightName.All8 w.t w.s)) 3 refl) ▸  -- ALL8
     (test, λ w. refl) ▸  -- BF
     (test, λ w. refl) ▸  -- BT
     (all_three, λ w. refl) ▸  -- MOVF

@@ -22,14 +22,14 @@ rotw w n p m = t_is w n m (signed_back 8 w.t n.1)
 register : {v : ℕ} (w : Fields) → AreNibbles w → Matches 0xFF000F v w → rrr v (eight w / 16) (eight w % 16) w.t ≡ w
 register w n m = rrr_is w n m (rest1 (eight w) w.s w.r n.2 refl) (digit0 (eight w) w.s w.r n.2 refl) refl
 
-rsr : (w : Fields) → AreNibbles w → IsPadded w → Matches 0xFF000F 0x030000 w → GivesBack w (cond (can_read (eight w)) (Some (insn.System (system.Rsr special.Rsr w.t (eight w)))) None)
-rsr w n p m = guarded (can_read (eight w)) (insn.System (system.Rsr special.Rsr w.t (eight w))) w (λ h. register w n m)
+rsr : (w : Fields) → AreNibbles w → IsPadded w → Matches 0xFF000F 0x030000 w → GivesBack w (cond (can_read (eight w)) (Some (insn.System (system.Special special.Rsr w.t (eight w)))) None)
+rsr w n p m = guarded (can_read (eight w)) (insn.System (system.Special special.Rsr w.t (eight w))) w (λ h. register w n m)
 
-wsr : (w : Fields) → AreNibbles w → IsPadded w → Matches 0xFF000F 0x130000 w → GivesBack w (cond (can_write (eight w)) (Some (insn.System (system.Rsr special.Wsr w.t (eight w)))) None)
-wsr w n p m = guarded (can_write (eight w)) (insn.System (system.Rsr special.Wsr w.t (eight w))) w (λ h. register w n m)
+wsr : (w : Fields) → AreNibbles w → IsPadded w → Matches 0xFF000F 0x130000 w → GivesBack w (cond (can_write (eight w)) (Some (insn.System (system.Special special.Wsr w.t (eight w)))) None)
+wsr w n p m = guarded (can_write (eight w)) (insn.System (system.Special special.Wsr w.t (eight w))) w (λ h. register w n m)
 
-xsr : (w : Fields) → AreNibbles w → IsPadded w → Matches 0xFF000F 0x610000 w → GivesBack w (cond (can_exchange (eight w)) (Some (insn.System (system.Rsr special.Xsr w.t (eight w)))) None)
-xsr w n p m = guarded (can_exchange (eight w)) (insn.System (system.Rsr special.Xsr w.t (eight w))) w (λ h. register w n m)
+xsr : (w : Fields) → AreNibbles w → IsPadded w → Matches 0xFF000F 0x610000 w → GivesBack w (cond (can_exchange (eight w)) (Some (insn.System (system.Special special.Xsr w.t (eight w)))) None)
+xsr w n p m = guarded (can_exchange (eight w)) (insn.System (system.Special special.Xsr w.t (eight w))) w (λ h. register w n m)
 
 pub system_encoded : AllRows IsEncoded system_rows
 system_encoded =
@@ -52,9 +52,9 @@ system_encoded =
     (in_ts, λ w. refl) ▸  -- RSIL
     (in_s, λ w. refl) ▸  -- WAITI
     (rotw, λ w. refl) ▸  -- ROTW
-    (rsr, λ w. sized (can_read (eight w)) (insn.System (system.Rsr special.Rsr w.t (eight w))) 3 refl) ▸  -- RSR
-    (wsr, λ w. sized (can_write (eight w)) (insn.System (system.Rsr special.Wsr w.t (eight w))) 3 refl) ▸  -- WSR
-    (xsr, λ w. sized (can_exchange (eight w)) (insn.System (system.Rsr special.Xsr w.t (eight w))) 3 refl) ▸  -- XSR
+    (rsr, λ w. sized (can_read (eight w)) (insn.System (system.Special special.Rsr w.t (eight w))) 3 refl) ▸  -- RSR
+    (wsr, λ w. sized (can_write (eight w)) (insn.System (system.Special special.Wsr w.t (eight w))) 3 refl) ▸  -- WSR
+    (xsr, λ w. sized (can_exchange (eight w)) (insn.System (system.Special special.Xsr w.t (eight w))) 3 refl) ▸  -- XSR
     (in_r, λ w. refl) ▸  -- RUR
     (in_t, λ w. refl) ▸  -- WUR
     tt

@@ -11,7 +11,7 @@ use Rattle.xt_isa.specs.declared.control.Control.TheVariants as control
 use Rattle.xt_isa.specs.declared.system.System.TheVariants as system
 use Rattle.xt_isa.specs.declared.density.Density.TheVariants as density
 use Rattle.xt_isa.specs.declared.boolean.Boolean.TheVariants as boolean
-use Rattle.xt_isa.specs.declared.system.BreakName.TheVariants.{Break, Syscall}
+use Rattle.xt_isa.specs.declared.system.TrapName.TheVariants.{Break, Syscall}
 use Rattle.xt_isa.specs.declared.system.LevelName.TheVariants.{Rsil, Waiti}
 use Rattle.xt_isa.specs.declared.system.SpecialName.TheVariants.{Rsr, Wsr, Xsr}
 use Rattle.xt_isa.specs.Ranges.{in_range, natural_within, signed_within, multiple_within, window_within, literal_within, call_within, page_within, is_b4const, is_b4constu, small_within, narrow_within, one_register, two_registers}
@@ -45,8 +45,8 @@ fits (parts.Break (x, y)) = is_word x && is_word y
 fits (parts.OneAndNumber name (s, n)) = is_word n
 fits (parts.TwoAndNumber name (a, b, n)) = is_word n
 fits (parts.Extui (r, t, n, w)) = is_word n && is_word w
-fits (parts.OneAndSpecial (one_special.Rsr name) (t, n)) = reaches (special_access name) n
-fits (parts.OneAndSpecial (one_special.Rur name) (t, n)) = reaches User n
+fits (parts.OneAndSpecial (one_special.Special name) (t, n)) = reaches (special_access name) n
+fits (parts.OneAndSpecial (one_special.User name) (t, n)) = reaches User n
 fits (parts.Jump d) = is_near d
 fits (parts.Call name d) = call_within d
 fits (parts.Literal (t, d)) = literal_within d
@@ -127,18 +127,18 @@ is_zero (negsuc n) h = cc
 
 -- both, by the tables: of most rows the parts give the instruction back by definition
 in_parts : (i : Insn) → in_range i ≡ true → (fits (parts_of i) ≡ true) × (insn_of (parts_of i) ≡ i)
-in_parts (insn.Three (three.And n r s t)) h = (refl, refl)
-in_parts (insn.Three (three.Add n r s t)) h = (refl, refl)
-in_parts (insn.Three (three.Sub n r s t)) h = (refl, refl)
+in_parts (insn.Three (three.Bitwise n r s t)) h = (refl, refl)
+in_parts (insn.Three (three.Sum n r s t)) h = (refl, refl)
+in_parts (insn.Three (three.Difference n r s t)) h = (refl, refl)
 in_parts (insn.Three (three.Src r s t)) h = (refl, refl)
-in_parts (insn.Three (three.Mul16u n r s t)) h = (refl, refl)
+in_parts (insn.Three (three.Mul16 n r s t)) h = (refl, refl)
 in_parts (insn.Three (three.Mull r s t)) h = (refl, refl)
-in_parts (insn.Three (three.Muluh n r s t)) h = (refl, refl)
-in_parts (insn.Three (three.Quou n r s t)) h = (refl, refl)
-in_parts (insn.Three (three.Min n r s t)) h = (refl, refl)
-in_parts (insn.Three (three.Moveqz n r s t)) h = (refl, refl)
-in_parts (insn.Shift (shift.Neg name r t)) h = (refl, refl)
-in_parts (insn.Shift (shift.Srl name r t)) h = (refl, refl)
+in_parts (insn.Three (three.MulHigh n r s t)) h = (refl, refl)
+in_parts (insn.Three (three.Divide n r s t)) h = (refl, refl)
+in_parts (insn.Three (three.MinMax n r s t)) h = (refl, refl)
+in_parts (insn.Three (three.Move n r s t)) h = (refl, refl)
+in_parts (insn.Shift (shift.Sign name r t)) h = (refl, refl)
+in_parts (insn.Shift (shift.ShiftRight name r t)) h = (refl, refl)
 in_parts (insn.Shift (shift.Sll r s)) h = (refl, refl)
 in_parts (insn.Shift (shift.Slli r s n)) h = (natural_word 1 31 n (omega arith) (and_parts (two_registers r s) (natural_within 1 31 n) h).1, refl)
 in_parts (insn.Shift (shift.Srai r t n)) h = (natural_word 0 31 n (omega arith) (and_parts (two_registers r t) (natural_within 0 31 n) h).1, refl)
@@ -146,72 +146,72 @@ in_parts (insn.Shift (shift.Srli r t n)) h = (natural_word 0 15 n (omega arith) 
 in_parts (insn.Shift (shift.Extui r t n m)) h =
     let each = and_parts (natural_within 0 31 n) (natural_within 1 16 m) (and_parts (two_registers r t) (natural_within 0 31 n && natural_within 1 16 m) h).1 in
     (and_from (is_word n) (is_word m) (natural_word 0 31 n (omega arith) each.0) (natural_word 1 16 m (omega arith) each.1), refl)
-in_parts (insn.Shift (shift.Sext name r s b)) h = (natural_word 7 22 b (omega arith) (and_parts (two_registers r s) (natural_within 7 22 b) h).1, refl)
-in_parts (insn.Shift (shift.Nsa name t s)) h = (refl, refl)
+in_parts (insn.Shift (shift.Signed name r s b)) h = (natural_word 7 22 b (omega arith) (and_parts (two_registers r s) (natural_within 7 22 b) h).1, refl)
+in_parts (insn.Shift (shift.Normalize name t s)) h = (refl, refl)
 in_parts (insn.Shift (shift.Movsp t s)) h = (refl, refl)
-in_parts (insn.Shift (shift.Ssr name s)) h = (refl, refl)
-in_parts (insn.Shift (shift.Ssa8l name s)) h = (refl, refl)
+in_parts (insn.Shift (shift.Amount name s)) h = (refl, refl)
+in_parts (insn.Shift (shift.ByteAmount name s)) h = (refl, refl)
 in_parts (insn.Shift (shift.Ssai n)) h = (natural_word 0 31 n (omega arith) h, refl)
-in_parts (insn.Memory (memory.L8ui name t s off)) h = (natural_word 0 255 off (omega arith) (and_parts (two_registers t s) (natural_within 0 255 off) h).1, refl)
-in_parts (insn.Memory (memory.L16ui name t s off)) h = (multiple_word_2 256 off (omega arith) (and_parts (two_registers t s) (multiple_within 2 256 off) h).1, refl)
-in_parts (insn.Memory (memory.L32i name t s off)) h = (multiple_word_4 256 off (omega arith) (and_parts (two_registers t s) (multiple_within 4 256 off) h).1, refl)
+in_parts (insn.Memory (memory.Byte name t s off)) h = (natural_word 0 255 off (omega arith) (and_parts (two_registers t s) (natural_within 0 255 off) h).1, refl)
+in_parts (insn.Memory (memory.Half name t s off)) h = (multiple_word_2 256 off (omega arith) (and_parts (two_registers t s) (multiple_within 2 256 off) h).1, refl)
+in_parts (insn.Memory (memory.Word name t s off)) h = (multiple_word_4 256 off (omega arith) (and_parts (two_registers t s) (multiple_within 4 256 off) h).1, refl)
 in_parts (insn.Memory (memory.S32c1i t s off)) h = (multiple_word_4 256 off (omega arith) (and_parts (two_registers t s) (multiple_within 4 256 off) h).1, refl)
-in_parts (insn.Memory (memory.L32e name t s off)) h = (window_word off (and_parts (two_registers t s) (window_within off) h).1, refl)
+in_parts (insn.Memory (memory.Window name t s off)) h = (window_word off (and_parts (two_registers t s) (window_within off) h).1, refl)
 in_parts (insn.Memory (memory.L32r t off)) h = ((and_parts (one_register t) (literal_within off) h).1, refl)
 in_parts (insn.Memory (memory.Movi t n)) h = (signed_word 2048 n (omega arith) (and_parts (one_register t) (signed_within 2048 n) h).1, refl)
 in_parts (insn.Memory (memory.Addi t s n)) h = (signed_word 128 n (omega arith) (and_parts (two_registers t s) (signed_within 128 n) h).1, refl)
 in_parts (insn.Memory (memory.Addmi t s n)) h = (page_word n (and_parts (two_registers t s) (page_within n) h).1, refl)
 in_parts (insn.Control (control.J off)) h = (signed_near 131072 off (omega arith) h, refl)
-in_parts (insn.Control (control.Call0 name off)) h = (h, refl)
-in_parts (insn.Control (control.Ret name)) h = (refl, refl)
+in_parts (insn.Control (control.Call name off)) h = (h, refl)
+in_parts (insn.Control (control.Return name)) h = (refl, refl)
 in_parts (insn.Control (control.Jx s)) h = (refl, refl)
-in_parts (insn.Control (control.Callx0 name s)) h = (refl, refl)
-in_parts (insn.Control (control.Beqz name s off)) h = (signed_near 2048 off (omega arith) (and_parts (one_register s) (signed_within 2048 off) h).1, refl)
-in_parts (insn.Control (control.Beqi name s c off)) h =
+in_parts (insn.Control (control.Callx name s)) h = (refl, refl)
+in_parts (insn.Control (control.BranchZero name s off)) h = (signed_near 2048 off (omega arith) (and_parts (one_register s) (signed_within 2048 off) h).1, refl)
+in_parts (insn.Control (control.BranchConst name s c off)) h =
     let each = and_parts (is_b4const c) (signed_within 128 off) (and_parts (one_register s) (is_b4const c && signed_within 128 off) h).1 in
     (and_from (is_word c) (is_near off) (b4const_word c each.0) (signed_near 128 off (omega arith) each.1), refl)
-in_parts (insn.Control (control.Bltui name s c off)) h =
+in_parts (insn.Control (control.BranchConstu name s c off)) h =
     let each = and_parts (is_b4constu c) (signed_within 128 off) (and_parts (one_register s) (is_b4constu c && signed_within 128 off) h).1 in
     (and_from (is_word c) (is_near off) (b4constu_word c each.0) (signed_near 128 off (omega arith) each.1), refl)
-in_parts (insn.Control (control.Bnone name s t off)) h = (signed_near 128 off (omega arith) (and_parts (two_registers s t) (signed_within 128 off) h).1, refl)
-in_parts (insn.Control (control.Bany name s t off)) h = (signed_near 128 off (omega arith) (and_parts (two_registers s t) (signed_within 128 off) h).1, refl)
-in_parts (insn.Control (control.Bbci name s b off)) h =
+in_parts (insn.Control (control.Branch name s t off)) h = (signed_near 128 off (omega arith) (and_parts (two_registers s t) (signed_within 128 off) h).1, refl)
+in_parts (insn.Control (control.BranchNot name s t off)) h = (signed_near 128 off (omega arith) (and_parts (two_registers s t) (signed_within 128 off) h).1, refl)
+in_parts (insn.Control (control.BranchBit name s b off)) h =
     let each = and_parts (natural_within 0 31 b) (signed_within 128 off) (and_parts (one_register s) (natural_within 0 31 b && signed_within 128 off) h).1 in
     (and_from (is_word b) (is_near off) (natural_word 0 31 b (omega arith) each.0) (signed_near 128 off (omega arith) each.1), refl)
 in_parts (insn.Control (control.Entry s n)) h = (multiple_word_8 4096 n (omega arith) (and_parts (one_register s) (multiple_within 8 4096 n) h).1, refl)
 in_parts (insn.Control (control.Loop name s off)) h = (natural_near 0 255 off (omega arith) (and_parts (one_register s) (natural_within 0 255 off) h).1, refl)
-in_parts (insn.System (system.Ill name)) h = (refl, refl)
-in_parts (insn.System (system.Excw name)) h = (refl, refl)
-in_parts (insn.System (system.Rfe name)) h = (refl, refl)
+in_parts (insn.System (system.Sync name)) h = (refl, refl)
+in_parts (insn.System (system.Wait name)) h = (refl, refl)
+in_parts (insn.System (system.ExceptionReturn name)) h = (refl, refl)
 in_parts (insn.System (system.Rfi l)) h = (natural_word 2 7 l (omega arith) h, refl)
-in_parts (insn.System (system.Break Break x y)) h =
+in_parts (insn.System (system.Trap Break x y)) h =
     let each = and_parts (natural_within 0 15 x) (natural_within 0 15 y) h in
     (and_from (is_word x) (is_word y) (natural_word 0 15 x (omega arith) each.0) (natural_word 0 15 y (omega arith) each.1), refl)
-in_parts (insn.System (system.Break Syscall x y)) h =
+in_parts (insn.System (system.Trap Syscall x y)) h =
     let parts = and_parts (natural_within 0 0 x) (natural_within 0 0 y) h in
-    (refl, ap (λ n. insn.System (system.Break Syscall n (pos 0))) (sym (is_zero x parts.0)) ∙ ap (λ n. insn.System (system.Break Syscall x n)) (sym (is_zero y parts.1)))
-in_parts (insn.System (system.Rsil Rsil t l)) h = (natural_word 0 15 l (omega arith) (and_parts (one_register t) (natural_within 0 15 l) h).1, refl)
-in_parts (insn.System (system.Rsil Waiti t l)) h =
+    (refl, ap (λ n. insn.System (system.Trap Syscall n (pos 0))) (sym (is_zero x parts.0)) ∙ ap (λ n. insn.System (system.Trap Syscall x n)) (sym (is_zero y parts.1)))
+in_parts (insn.System (system.Level Rsil t l)) h = (natural_word 0 15 l (omega arith) (and_parts (one_register t) (natural_within 0 15 l) h).1, refl)
+in_parts (insn.System (system.Level Waiti t l)) h =
     let each = and_parts (eqb t 0) (natural_within 0 15 l) h in
-    (natural_word 0 15 l (omega arith) each.1, ap (λ r. insn.System (system.Rsil Waiti r l)) (sym (eqb-true t 0 each.0)))
+    (natural_word 0 15 l (omega arith) each.1, ap (λ r. insn.System (system.Level Waiti r l)) (sym (eqb-true t 0 each.0)))
 in_parts (insn.System (system.Rotw n)) h = (signed_word 8 n (omega arith) h, refl)
-in_parts (insn.System (system.Rsr Rsr t n)) h = ((and_parts (one_register t) (can_read n) h).1, refl)
-in_parts (insn.System (system.Rsr Wsr t n)) h = ((and_parts (one_register t) (can_write n) h).1, refl)
-in_parts (insn.System (system.Rsr Xsr t n)) h = ((and_parts (one_register t) (can_exchange n) h).1, refl)
-in_parts (insn.System (system.Rur name r n)) h = ((and_parts (one_register r) (eqb n 231) h).1, refl)
-in_parts (insn.Density (density.L32i name t s off)) h = (multiple_word_4 16 off (omega arith) (and_parts (two_registers t s) (multiple_within 4 16 off) h).1, refl)
+in_parts (insn.System (system.Special Rsr t n)) h = ((and_parts (one_register t) (can_read n) h).1, refl)
+in_parts (insn.System (system.Special Wsr t n)) h = ((and_parts (one_register t) (can_write n) h).1, refl)
+in_parts (insn.System (system.Special Xsr t n)) h = ((and_parts (one_register t) (can_exchange n) h).1, refl)
+in_parts (insn.System (system.User name r n)) h = ((and_parts (one_register r) (eqb n 231) h).1, refl)
+in_parts (insn.Density (density.Word name t s off)) h = (multiple_word_4 16 off (omega arith) (and_parts (two_registers t s) (multiple_within 4 16 off) h).1, refl)
 in_parts (insn.Density (density.Add r s t)) h = (refl, refl)
 in_parts (insn.Density (density.Addi r s n)) h = (small_word n (and_parts (two_registers r s) (small_within n) h).1, refl)
 in_parts (insn.Density (density.Movi s n)) h = (narrow_word n (and_parts (one_register s) (narrow_within n) h).1, refl)
-in_parts (insn.Density (density.Beqz name s off)) h = (natural_near 0 63 off (omega arith) (and_parts (one_register s) (natural_within 0 63 off) h).1, refl)
+in_parts (insn.Density (density.BranchZero name s off)) h = (natural_near 0 63 off (omega arith) (and_parts (one_register s) (natural_within 0 63 off) h).1, refl)
 in_parts (insn.Density (density.Mov t s)) h = (refl, refl)
-in_parts (insn.Density (density.Ret name)) h = (refl, refl)
+in_parts (insn.Density (density.Bare name)) h = (refl, refl)
 in_parts (insn.Density (density.Break n)) h = (natural_word 0 15 n (omega arith) h, refl)
-in_parts (insn.Boolean (boolean.Andb name r s t)) h = (refl, refl)
-in_parts (insn.Boolean (boolean.Any4 name t s)) h = (refl, refl)
-in_parts (insn.Boolean (boolean.Any8 name t s)) h = (refl, refl)
-in_parts (insn.Boolean (boolean.Bf name s off)) h = (signed_near 128 off (omega arith) (and_parts (one_register s) (signed_within 128 off) h).1, refl)
-in_parts (insn.Boolean (boolean.Movf name r s t)) h = (refl, refl)
+in_parts (insn.Boolean (boolean.Logic name r s t)) h = (refl, refl)
+in_parts (insn.Boolean (boolean.Four name t s)) h = (refl, refl)
+in_parts (insn.Boolean (boolean.Eight name t s)) h = (refl, refl)
+in_parts (insn.Boolean (boolean.Test name s off)) h = (signed_near 128 off (omega arith) (and_parts (one_register s) (signed_within 128 off) h).1, refl)
+in_parts (insn.Boolean (boolean.Choice name r s t)) h = (refl, refl)
 
 pub in_range_fits : (i : Insn) → in_range i ≡ true → fits (parts_of i) ≡ true
 in_range_fits i h = (in_parts i h).0

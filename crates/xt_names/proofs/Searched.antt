@@ -7,7 +7,7 @@ use Rattle.std.specs.Str.{bytes_eq}
 use Rattle.xt_names.specs.declared.mnemonic.Mnemonic.{Mnemonic}
 use Rattle.xt_names.specs.declared.mnemonic.Mnemonic.TheVariants as mnemonic
 use Rattle.xt_names.specs.declared.mnemonic.Plain.TheVariants as plain
-use Rattle.xt_isa.specs.declared.control.RetName.TheVariants as RetName
+use Rattle.xt_isa.specs.declared.control.ReturnName.TheVariants as ReturnName
 use Rattle.xt_names.specs.Names.{call_name, mnemonic_of, mnemonics, name_of, number_name, one_and_number_name, one_and_special_name, one_and_target_name, one_name, one_number_and_target_name, plain_name, three_name, two_and_number_name, two_and_target_name, two_name}
 use Rattle.xt_names.specs.Search.{key}
 
@@ -52,14 +52,14 @@ keys_rise i j d less within = rises_far mnemonics i j d all_rise less within
 
 -- the mnemonic at a place
 abbrev pub at_in : List Mnemonic → ℕ → Mnemonic
-at_in ms j = get_or ms j (mnemonic.Nothing (plain.Ret RetName.Ret))
+at_in ms j = get_or ms j (mnemonic.Nothing (plain.Return ReturnName.Ret))
 
 abbrev pub at : ℕ → Mnemonic
 at j = at_in mnemonics j
 
 pub keys_rise_to : (i j : ℕ) → i ≤ j → j < length mnemonics → key_of (at i) ≤ key_of (at j)
 keys_rise_to i j most within = ⊎_elim
-    (λ less. let up = keys_rise i j (mnemonic.Nothing (plain.Ret RetName.Ret)) less within in omega (arith, up))
+    (λ less. let up = keys_rise i j (mnemonic.Nothing (plain.Return ReturnName.Ret)) less within in omega (arith, up))
     (λ not_less. let same : i ≡ j = omega (arith, most, not_less) in let equal = ap (λ k. key_of (at k)) same in omega (arith, equal))
     (cases_lt i j)
 
@@ -92,8 +92,8 @@ pub at_key : (name : List ℕ) (i : ℕ) → i < length mnemonics → key_of (at
     → mnemonic_of name ≡ cond (bytes_eq (name_of (at i)) name) (Some (at i)) None
 unfolding mnemonic_of
 at_key name i within same = one_found (has_name name) mnemonics i _ within
-    (λ j less. other name (at j) (λ e. let up = keys_rise j i (mnemonic.Nothing (plain.Ret RetName.Ret)) less within in omega (arith, up, e, same)))
-    (λ j less w. other name (at j) (λ e. let up = keys_rise i j (mnemonic.Nothing (plain.Ret RetName.Ret)) less w in omega (arith, up, e, same)))
+    (λ j less. other name (at j) (λ e. let up = keys_rise j i (mnemonic.Nothing (plain.Return ReturnName.Ret)) less within in omega (arith, up, e, same)))
+    (λ j less w. other name (at j) (λ e. let up = keys_rise i j (mnemonic.Nothing (plain.Return ReturnName.Ret)) less w in omega (arith, up, e, same)))
 
 -- no mnemonic has the key of the name
 pub at_no_key : (name : List ℕ) (low high : ℕ) → high ≤ low

@@ -28,12 +28,12 @@ use Rattle.xt_names.specs.declared.mnemonic.TwoAndNumber.TheVariants as two_numb
 unfoldable pub shapes_of : Mnemonic → List Shape
 shapes_of (mnemonic.Nothing m) = []
 shapes_of (mnemonic.One m) = shape.Register ∷ []
-shapes_of (mnemonic.Two (two.Any4 name)) = shape.Boolean ∷ shape.Boolean ∷ []
-shapes_of (mnemonic.Two (two.Any8 name)) = shape.Boolean ∷ shape.Boolean ∷ []
+shapes_of (mnemonic.Two (two.Four name)) = shape.Boolean ∷ shape.Boolean ∷ []
+shapes_of (mnemonic.Two (two.Eight name)) = shape.Boolean ∷ shape.Boolean ∷ []
 shapes_of (mnemonic.Two m) = shape.Register ∷ shape.Register ∷ []
-shapes_of (mnemonic.Three (triple.Andb name)) =
+shapes_of (mnemonic.Three (triple.Logic name)) =
     shape.Boolean ∷ shape.Boolean ∷ shape.Boolean ∷ []
-shapes_of (mnemonic.Three (triple.Movf name)) =
+shapes_of (mnemonic.Three (triple.Choice name)) =
     shape.Register ∷ shape.Register ∷ shape.Boolean ∷ []
 shapes_of (mnemonic.Three m) = shape.Register ∷ shape.Register ∷ shape.Register ∷ []
 shapes_of (mnemonic.Number m) = shape.Value ∷ []
@@ -41,25 +41,25 @@ shapes_of mnemonic.Break = shape.Value ∷ shape.Value ∷ []
 shapes_of (mnemonic.OneAndNumber m) = shape.Register ∷ shape.Value ∷ []
 shapes_of (mnemonic.TwoAndNumber m) = shape.Register ∷ shape.Register ∷ shape.Value ∷ []
 shapes_of mnemonic.Extui = shape.Register ∷ shape.Register ∷ shape.Value ∷ shape.Value ∷ []
-shapes_of (mnemonic.OneAndSpecial (one_special.Rsr m)) = shape.Register ∷ shape.Special ∷ []
-shapes_of (mnemonic.OneAndSpecial (one_special.Rur m)) = shape.Register ∷ shape.User ∷ []
+shapes_of (mnemonic.OneAndSpecial (one_special.Special m)) = shape.Register ∷ shape.Special ∷ []
+shapes_of (mnemonic.OneAndSpecial (one_special.User m)) = shape.Register ∷ shape.User ∷ []
 shapes_of mnemonic.Jump = shape.Value ∷ []
 shapes_of (mnemonic.Call m) = shape.Value ∷ []
 shapes_of mnemonic.Literal = shape.Register ∷ shape.Literal ∷ []
-shapes_of (mnemonic.OneAndTarget (one_target.Bf name)) = shape.Boolean ∷ shape.Value ∷ []
+shapes_of (mnemonic.OneAndTarget (one_target.Test name)) = shape.Boolean ∷ shape.Value ∷ []
 shapes_of (mnemonic.OneAndTarget m) = shape.Register ∷ shape.Value ∷ []
 shapes_of (mnemonic.OneNumberAndTarget m) = shape.Register ∷ shape.Value ∷ shape.Value ∷ []
 shapes_of (mnemonic.TwoAndTarget m) = shape.Register ∷ shape.Register ∷ shape.Value ∷ []
 
 -- the mnemonics of 16 bits, which are those of the Code Density Option
 abbrev pub is_narrow : Mnemonic → Bool
-is_narrow (mnemonic.Nothing (plain.RetNarrow name)) = true
+is_narrow (mnemonic.Nothing (plain.Bare name)) = true
 is_narrow (mnemonic.Two two.MovNarrow) = true
 is_narrow (mnemonic.Three triple.AddNarrow) = true
 is_narrow (mnemonic.Number numeric.BreakNarrow) = true
 is_narrow (mnemonic.OneAndNumber one_number.MoviNarrow) = true
-is_narrow (mnemonic.OneAndTarget (one_target.BeqzNarrow name)) = true
-is_narrow (mnemonic.TwoAndNumber (two_number.L32iNarrow name)) = true
+is_narrow (mnemonic.OneAndTarget (one_target.BranchZeroNarrow name)) = true
+is_narrow (mnemonic.TwoAndNumber (two_number.WordNarrow name)) = true
 is_narrow (mnemonic.TwoAndNumber two_number.AddiNarrow) = true
 is_narrow _ = false
 
@@ -75,6 +75,6 @@ special_access special.Xsr = Exchange
 
 -- how a mnemonic reaches the special or user register that it names
 abbrev pub access_of : Mnemonic → Option Access
-access_of (mnemonic.OneAndSpecial (one_special.Rsr name)) = Some (special_access name)
-access_of (mnemonic.OneAndSpecial (one_special.Rur name)) = Some User
+access_of (mnemonic.OneAndSpecial (one_special.Special name)) = Some (special_access name)
+access_of (mnemonic.OneAndSpecial (one_special.User name)) = Some User
 access_of _ = None

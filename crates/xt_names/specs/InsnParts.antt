@@ -20,7 +20,7 @@ use Rattle.xt_isa.specs.declared.density.Density.{Density}
 use Rattle.xt_isa.specs.declared.density.Density.TheVariants as density
 use Rattle.xt_isa.specs.declared.boolean.Boolean.{Boolean}
 use Rattle.xt_isa.specs.declared.boolean.Boolean.TheVariants as boolean
-use Rattle.xt_isa.specs.declared.system.BreakName.TheVariants.{Break, Syscall}
+use Rattle.xt_isa.specs.declared.system.TrapName.TheVariants.{Break, Syscall}
 use Rattle.xt_isa.specs.declared.system.LevelName.TheVariants.{Rsil, Waiti}
 use Rattle.xt_names.specs.declared.mnemonic.Mnemonic.{Mnemonic}
 use Rattle.xt_names.specs.declared.mnemonic.Mnemonic.TheVariants as mnemonic
@@ -59,40 +59,40 @@ mnemonic_in (parts.TwoAndTarget name o) = mnemonic.TwoAndTarget name
 
 -- three registers
 abbrev pub three_parts : isa.Three → Parts
-three_parts (three.And name r s t) = parts.Three (triple.And name) (r, s, t)
-three_parts (three.Add name r s t) = parts.Three (triple.Add name) (r, s, t)
-three_parts (three.Sub name r s t) = parts.Three (triple.Sub name) (r, s, t)
+three_parts (three.Bitwise name r s t) = parts.Three (triple.Bitwise name) (r, s, t)
+three_parts (three.Sum name r s t) = parts.Three (triple.Sum name) (r, s, t)
+three_parts (three.Difference name r s t) = parts.Three (triple.Difference name) (r, s, t)
 three_parts (three.Src r s t) = parts.Three triple.Src (r, s, t)
-three_parts (three.Mul16u name r s t) = parts.Three (triple.Mul16u name) (r, s, t)
+three_parts (three.Mul16 name r s t) = parts.Three (triple.Mul16 name) (r, s, t)
 three_parts (three.Mull r s t) = parts.Three triple.Mull (r, s, t)
-three_parts (three.Muluh name r s t) = parts.Three (triple.Muluh name) (r, s, t)
-three_parts (three.Quou name r s t) = parts.Three (triple.Quou name) (r, s, t)
-three_parts (three.Min name r s t) = parts.Three (triple.Min name) (r, s, t)
-three_parts (three.Moveqz name r s t) = parts.Three (triple.Moveqz name) (r, s, t)
+three_parts (three.MulHigh name r s t) = parts.Three (triple.MulHigh name) (r, s, t)
+three_parts (three.Divide name r s t) = parts.Three (triple.Divide name) (r, s, t)
+three_parts (three.MinMax name r s t) = parts.Three (triple.MinMax name) (r, s, t)
+three_parts (three.Move name r s t) = parts.Three (triple.Move name) (r, s, t)
 
 -- shifts, and one source
 abbrev pub shift_parts : Shift → Parts
-shift_parts (shift.Neg name r t) = parts.Two (two.Neg name) (r, t)
-shift_parts (shift.Srl name r t) = parts.Two (two.Srl name) (r, t)
+shift_parts (shift.Sign name r t) = parts.Two (two.Sign name) (r, t)
+shift_parts (shift.ShiftRight name r t) = parts.Two (two.ShiftRight name) (r, t)
 shift_parts (shift.Sll r s) = parts.Two two.Sll (r, s)
 shift_parts (shift.Slli r s n) = parts.TwoAndNumber two_number.Slli (r, s, n)
 shift_parts (shift.Srai r t n) = parts.TwoAndNumber two_number.Srai (r, t, n)
 shift_parts (shift.Srli r t n) = parts.TwoAndNumber two_number.Srli (r, t, n)
 shift_parts (shift.Extui r t n w) = parts.Extui (r, t, n, w)
-shift_parts (shift.Sext name r s b) = parts.TwoAndNumber (two_number.Sext name) (r, s, b)
-shift_parts (shift.Nsa name t s) = parts.Two (two.Nsa name) (t, s)
+shift_parts (shift.Signed name r s b) = parts.TwoAndNumber (two_number.Signed name) (r, s, b)
+shift_parts (shift.Normalize name t s) = parts.Two (two.Normalize name) (t, s)
 shift_parts (shift.Movsp t s) = parts.Two two.Movsp (t, s)
-shift_parts (shift.Ssr name s) = parts.One (one.Ssr name) s
-shift_parts (shift.Ssa8l name s) = parts.One (one.Ssa8l name) s
+shift_parts (shift.Amount name s) = parts.One (one.Amount name) s
+shift_parts (shift.ByteAmount name s) = parts.One (one.ByteAmount name) s
 shift_parts (shift.Ssai n) = parts.Number numeric.Ssai n
 
 -- loads, stores and immediates
 abbrev pub memory_parts : Memory → Parts
-memory_parts (memory.L8ui name t s n) = parts.TwoAndNumber (two_number.L8ui name) (t, s, n)
-memory_parts (memory.L16ui name t s n) = parts.TwoAndNumber (two_number.L16ui name) (t, s, n)
-memory_parts (memory.L32i name t s n) = parts.TwoAndNumber (two_number.L32i name) (t, s, n)
+memory_parts (memory.Byte name t s n) = parts.TwoAndNumber (two_number.Byte name) (t, s, n)
+memory_parts (memory.Half name t s n) = parts.TwoAndNumber (two_number.Half name) (t, s, n)
+memory_parts (memory.Word name t s n) = parts.TwoAndNumber (two_number.Word name) (t, s, n)
 memory_parts (memory.S32c1i t s n) = parts.TwoAndNumber two_number.S32c1i (t, s, n)
-memory_parts (memory.L32e name t s n) = parts.TwoAndNumber (two_number.L32e name) (t, s, n)
+memory_parts (memory.Window name t s n) = parts.TwoAndNumber (two_number.Window name) (t, s, n)
 memory_parts (memory.L32r t offset) = parts.Literal (t, offset)
 memory_parts (memory.Movi t n) = parts.OneAndNumber one_number.Movi (t, n)
 memory_parts (memory.Addi t s n) = parts.TwoAndNumber two_number.Addi (t, s, n)
@@ -101,54 +101,56 @@ memory_parts (memory.Addmi t s n) = parts.TwoAndNumber two_number.Addmi (t, s, n
 -- jumps, calls, branches, ENTRY and loops
 abbrev pub control_parts : Control → Parts
 control_parts (control.J d) = parts.Jump d
-control_parts (control.Call0 name d) = parts.Call name d
-control_parts (control.Ret name) = parts.Nothing (plain.Ret name)
+control_parts (control.Call name d) = parts.Call name d
+control_parts (control.Return name) = parts.Nothing (plain.Return name)
 control_parts (control.Jx s) = parts.One one.Jx s
-control_parts (control.Callx0 name s) = parts.One (one.Callx0 name) s
-control_parts (control.Beqz name s d) = parts.OneAndTarget (one_target.Beqz name) (s, d)
-control_parts (control.Beqi name s c d) =
-    parts.OneNumberAndTarget (one_number_target.Beqi name) (s, c, d)
-control_parts (control.Bltui name s c d) =
-    parts.OneNumberAndTarget (one_number_target.Bltui name) (s, c, d)
-control_parts (control.Bnone name s t d) = parts.TwoAndTarget (two_target.Bnone name) (s, t, d)
-control_parts (control.Bany name s t d) = parts.TwoAndTarget (two_target.Bany name) (s, t, d)
-control_parts (control.Bbci name s b d) =
-    parts.OneNumberAndTarget (one_number_target.Bbci name) (s, b, d)
+control_parts (control.Callx name s) = parts.One (one.Callx name) s
+control_parts (control.BranchZero name s d) = parts.OneAndTarget (one_target.BranchZero name) (s, d)
+control_parts (control.BranchConst name s c d) =
+    parts.OneNumberAndTarget (one_number_target.BranchConst name) (s, c, d)
+control_parts (control.BranchConstu name s c d) =
+    parts.OneNumberAndTarget (one_number_target.BranchConstu name) (s, c, d)
+control_parts (control.Branch name s t d) = parts.TwoAndTarget (two_target.Branch name) (s, t, d)
+control_parts (control.BranchNot name s t d) =
+  parts.TwoAndTarget (two_target.BranchNot name) (s, t, d)
+control_parts (control.BranchBit name s b d) =
+    parts.OneNumberAndTarget (one_number_target.BranchBit name) (s, b, d)
 control_parts (control.Entry s n) = parts.OneAndNumber one_number.Entry (s, n)
 control_parts (control.Loop name s d) = parts.OneAndTarget (one_target.Loop name) (s, d)
 
 -- SYSCALL and WAITI have fewer operands than the other names of their lines
 abbrev pub system_parts : System → Parts
-system_parts (system.Ill name) = parts.Nothing (plain.Ill name)
-system_parts (system.Excw name) = parts.Nothing (plain.Excw name)
-system_parts (system.Rfe name) = parts.Nothing (plain.Rfe name)
+system_parts (system.Sync name) = parts.Nothing (plain.Sync name)
+system_parts (system.Wait name) = parts.Nothing (plain.Wait name)
+system_parts (system.ExceptionReturn name) = parts.Nothing (plain.ExceptionReturn name)
 system_parts (system.Rfi l) = parts.Number numeric.Rfi l
-system_parts (system.Break Break x y) = parts.Break (x, y)
-system_parts (system.Break Syscall x y) = parts.Nothing plain.Syscall
-system_parts (system.Rsil Rsil t l) = parts.OneAndNumber one_number.Rsil (t, l)
-system_parts (system.Rsil Waiti x l) = parts.Number numeric.Waiti l
+system_parts (system.Trap Break x y) = parts.Break (x, y)
+system_parts (system.Trap Syscall x y) = parts.Nothing plain.Syscall
+system_parts (system.Level Rsil t l) = parts.OneAndNumber one_number.Rsil (t, l)
+system_parts (system.Level Waiti x l) = parts.Number numeric.Waiti l
 system_parts (system.Rotw n) = parts.Number numeric.Rotw n
-system_parts (system.Rsr name t n) = parts.OneAndSpecial (one_special.Rsr name) (t, n)
-system_parts (system.Rur name r n) = parts.OneAndSpecial (one_special.Rur name) (r, n)
+system_parts (system.Special name t n) = parts.OneAndSpecial (one_special.Special name) (t, n)
+system_parts (system.User name r n) = parts.OneAndSpecial (one_special.User name) (r, n)
 
 -- the 16-bit instructions
 abbrev pub density_parts : Density → Parts
-density_parts (density.L32i name t s n) = parts.TwoAndNumber (two_number.L32iNarrow name) (t, s, n)
+density_parts (density.Word name t s n) = parts.TwoAndNumber (two_number.WordNarrow name) (t, s, n)
 density_parts (density.Add r s t) = parts.Three triple.AddNarrow (r, s, t)
 density_parts (density.Addi r s n) = parts.TwoAndNumber two_number.AddiNarrow (r, s, n)
 density_parts (density.Movi s n) = parts.OneAndNumber one_number.MoviNarrow (s, n)
-density_parts (density.Beqz name s d) = parts.OneAndTarget (one_target.BeqzNarrow name) (s, d)
+density_parts (density.BranchZero name s d) =
+  parts.OneAndTarget (one_target.BranchZeroNarrow name) (s, d)
 density_parts (density.Mov t s) = parts.Two two.MovNarrow (t, s)
-density_parts (density.Ret name) = parts.Nothing (plain.RetNarrow name)
+density_parts (density.Bare name) = parts.Nothing (plain.Bare name)
 density_parts (density.Break n) = parts.Number numeric.BreakNarrow n
 
 -- the instructions of Boolean registers
 abbrev pub boolean_parts : Boolean → Parts
-boolean_parts (boolean.Andb name r s t) = parts.Three (triple.Andb name) (r, s, t)
-boolean_parts (boolean.Any4 name t s) = parts.Two (two.Any4 name) (t, s)
-boolean_parts (boolean.Any8 name t s) = parts.Two (two.Any8 name) (t, s)
-boolean_parts (boolean.Bf name s d) = parts.OneAndTarget (one_target.Bf name) (s, d)
-boolean_parts (boolean.Movf name r s t) = parts.Three (triple.Movf name) (r, s, t)
+boolean_parts (boolean.Logic name r s t) = parts.Three (triple.Logic name) (r, s, t)
+boolean_parts (boolean.Four name t s) = parts.Two (two.Four name) (t, s)
+boolean_parts (boolean.Eight name t s) = parts.Two (two.Eight name) (t, s)
+boolean_parts (boolean.Test name s d) = parts.OneAndTarget (one_target.Test name) (s, d)
+boolean_parts (boolean.Choice name r s t) = parts.Three (triple.Choice name) (r, s, t)
 
 -- the parts of an instruction
 abbrev pub parts_of : Insn → Parts

@@ -12,8 +12,8 @@ use Rattle.xt_isa.specs.declared.control.Control.TheVariants as control
 use Rattle.xt_isa.specs.declared.system.System.TheVariants as system
 use Rattle.xt_isa.specs.declared.density.Density.TheVariants as density
 use Rattle.xt_isa.specs.declared.boolean.Boolean.TheVariants as boolean
-use Rattle.xt_isa.specs.declared.three.AndName.TheVariants as AndName
-use Rattle.xt_isa.specs.declared.system.BreakName.TheVariants as BreakName
+use Rattle.xt_isa.specs.declared.three.BitwiseName.TheVariants as BitwiseName
+use Rattle.xt_isa.specs.declared.system.TrapName.TheVariants as TrapName
 use Rattle.xt_isa.specs.declared.system.LevelName.TheVariants as LevelName
 use Rattle.xt_names.specs.declared.mnemonic.Plain.{Plain}
 use Rattle.xt_names.specs.declared.mnemonic.Plain.TheVariants as plain
@@ -41,94 +41,95 @@ use Rattle.xt_names.specs.declared.parts.Parts.{Parts}
 use Rattle.xt_names.specs.declared.parts.Parts.TheVariants as parts
 
 abbrev pub of_plain : Plain → Insn
-of_plain (plain.Ret name) = insn.Control (control.Ret name)
-of_plain (plain.Ill name) = insn.System (system.Ill name)
-of_plain (plain.Excw name) = insn.System (system.Excw name)
-of_plain (plain.Rfe name) = insn.System (system.Rfe name)
-of_plain plain.Syscall = insn.System (system.Break BreakName.Syscall (pos 0) (pos 0))
-of_plain (plain.RetNarrow name) = insn.Density (density.Ret name)
+of_plain (plain.Return name) = insn.Control (control.Return name)
+of_plain (plain.Sync name) = insn.System (system.Sync name)
+of_plain (plain.Wait name) = insn.System (system.Wait name)
+of_plain (plain.ExceptionReturn name) = insn.System (system.ExceptionReturn name)
+of_plain plain.Syscall = insn.System (system.Trap TrapName.Syscall (pos 0) (pos 0))
+of_plain (plain.Bare name) = insn.Density (density.Bare name)
 
 abbrev pub of_one : One → ℕ → Insn
-of_one (one.Ssr name) s = insn.Shift (shift.Ssr name s)
-of_one (one.Ssa8l name) s = insn.Shift (shift.Ssa8l name s)
+of_one (one.Amount name) s = insn.Shift (shift.Amount name s)
+of_one (one.ByteAmount name) s = insn.Shift (shift.ByteAmount name s)
 of_one one.Jx s = insn.Control (control.Jx s)
-of_one (one.Callx0 name) s = insn.Control (control.Callx0 name s)
+of_one (one.Callx name) s = insn.Control (control.Callx name s)
 
 abbrev pub of_two : Two → ℕ → ℕ → Insn
-of_two (two.Neg name) r t = insn.Shift (shift.Neg name r t)
-of_two (two.Srl name) r t = insn.Shift (shift.Srl name r t)
+of_two (two.Sign name) r t = insn.Shift (shift.Sign name r t)
+of_two (two.ShiftRight name) r t = insn.Shift (shift.ShiftRight name r t)
 of_two two.Sll r s = insn.Shift (shift.Sll r s)
-of_two (two.Nsa name) t s = insn.Shift (shift.Nsa name t s)
+of_two (two.Normalize name) t s = insn.Shift (shift.Normalize name t s)
 of_two two.Movsp t s = insn.Shift (shift.Movsp t s)
-of_two two.Mov r s = insn.Three (three.And AndName.Or r s s)
+of_two two.Mov r s = insn.Three (three.Bitwise BitwiseName.Or r s s)
 of_two two.MovNarrow t s = insn.Density (density.Mov t s)
-of_two (two.Any4 name) t s = insn.Boolean (boolean.Any4 name t s)
-of_two (two.Any8 name) t s = insn.Boolean (boolean.Any8 name t s)
+of_two (two.Four name) t s = insn.Boolean (boolean.Four name t s)
+of_two (two.Eight name) t s = insn.Boolean (boolean.Eight name t s)
 
 abbrev pub of_three : Three → ℕ → ℕ → ℕ → Insn
-of_three (triple.And name) r s t = insn.Three (three.And name r s t)
-of_three (triple.Add name) r s t = insn.Three (three.Add name r s t)
-of_three (triple.Sub name) r s t = insn.Three (three.Sub name r s t)
+of_three (triple.Bitwise name) r s t = insn.Three (three.Bitwise name r s t)
+of_three (triple.Sum name) r s t = insn.Three (three.Sum name r s t)
+of_three (triple.Difference name) r s t = insn.Three (three.Difference name r s t)
 of_three triple.Src r s t = insn.Three (three.Src r s t)
-of_three (triple.Mul16u name) r s t = insn.Three (three.Mul16u name r s t)
+of_three (triple.Mul16 name) r s t = insn.Three (three.Mul16 name r s t)
 of_three triple.Mull r s t = insn.Three (three.Mull r s t)
-of_three (triple.Muluh name) r s t = insn.Three (three.Muluh name r s t)
-of_three (triple.Quou name) r s t = insn.Three (three.Quou name r s t)
-of_three (triple.Min name) r s t = insn.Three (three.Min name r s t)
-of_three (triple.Moveqz name) r s t = insn.Three (three.Moveqz name r s t)
+of_three (triple.MulHigh name) r s t = insn.Three (three.MulHigh name r s t)
+of_three (triple.Divide name) r s t = insn.Three (three.Divide name r s t)
+of_three (triple.MinMax name) r s t = insn.Three (three.MinMax name r s t)
+of_three (triple.Move name) r s t = insn.Three (three.Move name r s t)
 of_three triple.AddNarrow r s t = insn.Density (density.Add r s t)
-of_three (triple.Andb name) r s t = insn.Boolean (boolean.Andb name r s t)
-of_three (triple.Movf name) r s t = insn.Boolean (boolean.Movf name r s t)
+of_three (triple.Logic name) r s t = insn.Boolean (boolean.Logic name r s t)
+of_three (triple.Choice name) r s t = insn.Boolean (boolean.Choice name r s t)
 
 abbrev pub of_number : Number → ℤ → Insn
 of_number numeric.Ssai n = insn.Shift (shift.Ssai n)
 of_number numeric.Rfi n = insn.System (system.Rfi n)
-of_number numeric.Waiti n = insn.System (system.Rsil LevelName.Waiti 0 n)
+of_number numeric.Waiti n = insn.System (system.Level LevelName.Waiti 0 n)
 of_number numeric.Rotw n = insn.System (system.Rotw n)
 of_number numeric.BreakNarrow n = insn.Density (density.Break n)
 
 abbrev pub of_one_and_number : OneAndNumber → ℕ → ℤ → Insn
 of_one_and_number one_number.Movi t n = insn.Memory (memory.Movi t n)
-of_one_and_number one_number.Rsil t n = insn.System (system.Rsil LevelName.Rsil t n)
+of_one_and_number one_number.Rsil t n = insn.System (system.Level LevelName.Rsil t n)
 of_one_and_number one_number.Entry s n = insn.Control (control.Entry s n)
 of_one_and_number one_number.MoviNarrow s n = insn.Density (density.Movi s n)
 
 abbrev pub of_one_and_special : OneAndSpecial → ℕ → ℕ → Insn
-of_one_and_special (one_special.Rsr name) t n = insn.System (system.Rsr name t n)
-of_one_and_special (one_special.Rur name) r n = insn.System (system.Rur name r n)
+of_one_and_special (one_special.Special name) t n = insn.System (system.Special name t n)
+of_one_and_special (one_special.User name) r n = insn.System (system.User name r n)
 
 abbrev pub of_one_and_target : OneAndTarget → ℕ → ℤ → Insn
-of_one_and_target (one_target.Beqz name) s d = insn.Control (control.Beqz name s d)
+of_one_and_target (one_target.BranchZero name) s d = insn.Control (control.BranchZero name s d)
 of_one_and_target (one_target.Loop name) s d = insn.Control (control.Loop name s d)
-of_one_and_target (one_target.BeqzNarrow name) s d = insn.Density (density.Beqz name s d)
-of_one_and_target (one_target.Bf name) s d = insn.Boolean (boolean.Bf name s d)
+of_one_and_target (one_target.BranchZeroNarrow name) s d =
+  insn.Density (density.BranchZero name s d)
+of_one_and_target (one_target.Test name) s d = insn.Boolean (boolean.Test name s d)
 
 abbrev pub of_one_number_and_target : OneNumberAndTarget → ℕ → ℤ → ℤ → Insn
-of_one_number_and_target (one_number_target.Beqi name) s n d =
-    insn.Control (control.Beqi name s n d)
-of_one_number_and_target (one_number_target.Bltui name) s n d =
-    insn.Control (control.Bltui name s n d)
-of_one_number_and_target (one_number_target.Bbci name) s n d =
-    insn.Control (control.Bbci name s n d)
+of_one_number_and_target (one_number_target.BranchConst name) s n d =
+    insn.Control (control.BranchConst name s n d)
+of_one_number_and_target (one_number_target.BranchConstu name) s n d =
+    insn.Control (control.BranchConstu name s n d)
+of_one_number_and_target (one_number_target.BranchBit name) s n d =
+    insn.Control (control.BranchBit name s n d)
 
 abbrev pub of_two_and_number : TwoAndNumber → ℕ → ℕ → ℤ → Insn
 of_two_and_number two_number.Slli r s n = insn.Shift (shift.Slli r s n)
 of_two_and_number two_number.Srai r t n = insn.Shift (shift.Srai r t n)
 of_two_and_number two_number.Srli r t n = insn.Shift (shift.Srli r t n)
-of_two_and_number (two_number.Sext name) r s n = insn.Shift (shift.Sext name r s n)
-of_two_and_number (two_number.L8ui name) t s n = insn.Memory (memory.L8ui name t s n)
-of_two_and_number (two_number.L16ui name) t s n = insn.Memory (memory.L16ui name t s n)
-of_two_and_number (two_number.L32i name) t s n = insn.Memory (memory.L32i name t s n)
+of_two_and_number (two_number.Signed name) r s n = insn.Shift (shift.Signed name r s n)
+of_two_and_number (two_number.Byte name) t s n = insn.Memory (memory.Byte name t s n)
+of_two_and_number (two_number.Half name) t s n = insn.Memory (memory.Half name t s n)
+of_two_and_number (two_number.Word name) t s n = insn.Memory (memory.Word name t s n)
 of_two_and_number two_number.S32c1i t s n = insn.Memory (memory.S32c1i t s n)
-of_two_and_number (two_number.L32e name) t s n = insn.Memory (memory.L32e name t s n)
+of_two_and_number (two_number.Window name) t s n = insn.Memory (memory.Window name t s n)
 of_two_and_number two_number.Addi t s n = insn.Memory (memory.Addi t s n)
 of_two_and_number two_number.Addmi t s n = insn.Memory (memory.Addmi t s n)
-of_two_and_number (two_number.L32iNarrow name) t s n = insn.Density (density.L32i name t s n)
+of_two_and_number (two_number.WordNarrow name) t s n = insn.Density (density.Word name t s n)
 of_two_and_number two_number.AddiNarrow r s n = insn.Density (density.Addi r s n)
 
 abbrev pub of_two_and_target : TwoAndTarget → ℕ → ℕ → ℤ → Insn
-of_two_and_target (two_target.Bnone name) s t d = insn.Control (control.Bnone name s t d)
-of_two_and_target (two_target.Bany name) s t d = insn.Control (control.Bany name s t d)
+of_two_and_target (two_target.Branch name) s t d = insn.Control (control.Branch name s t d)
+of_two_and_target (two_target.BranchNot name) s t d = insn.Control (control.BranchNot name s t d)
 
 -- the instruction of these parts
 abbrev pub insn_of : Parts → Insn
@@ -137,13 +138,13 @@ insn_of (parts.One name s) = of_one name s
 insn_of (parts.Two name (a, b)) = of_two name a b
 insn_of (parts.Three name (r, s, t)) = of_three name r s t
 insn_of (parts.Number name n) = of_number name n
-insn_of (parts.Break (x, y)) = insn.System (system.Break BreakName.Break x y)
+insn_of (parts.Break (x, y)) = insn.System (system.Trap TrapName.Break x y)
 insn_of (parts.OneAndNumber name (s, n)) = of_one_and_number name s n
 insn_of (parts.TwoAndNumber name (a, b, n)) = of_two_and_number name a b n
 insn_of (parts.Extui (r, t, n, w)) = insn.Shift (shift.Extui r t n w)
 insn_of (parts.OneAndSpecial name (t, n)) = of_one_and_special name t n
 insn_of (parts.Jump d) = insn.Control (control.J d)
-insn_of (parts.Call name d) = insn.Control (control.Call0 name d)
+insn_of (parts.Call name d) = insn.Control (control.Call name d)
 insn_of (parts.Literal (t, d)) = insn.Memory (memory.L32r t d)
 insn_of (parts.OneAndTarget name (s, d)) = of_one_and_target name s d
 insn_of (parts.OneNumberAndTarget name (s, n, d)) = of_one_number_and_target name s n d

@@ -46,21 +46,21 @@ pub fn shapes_of(mnemonic: Mnemonic) -> &'static [Shape]
     match mnemonic {
         Mnemonic::Nothing(_) => &[],
         Mnemonic::One(_) => &[Shape::Register],
-        Mnemonic::Two(Two::Any4(_) | Two::Any8(_)) => &[Shape::Boolean, Shape::Boolean],
+        Mnemonic::Two(Two::Four(_) | Two::Eight(_)) => &[Shape::Boolean, Shape::Boolean],
         Mnemonic::Two(_) => &[Shape::Register, Shape::Register],
-        Mnemonic::Three(Three::Andb(_)) => &[Shape::Boolean, Shape::Boolean, Shape::Boolean],
-        Mnemonic::Three(Three::Movf(_)) => &[Shape::Register, Shape::Register, Shape::Boolean],
+        Mnemonic::Three(Three::Logic(_)) => &[Shape::Boolean, Shape::Boolean, Shape::Boolean],
+        Mnemonic::Three(Three::Choice(_)) => &[Shape::Register, Shape::Register, Shape::Boolean],
         Mnemonic::Three(_) => &[Shape::Register, Shape::Register, Shape::Register],
         Mnemonic::Number(_) | Mnemonic::Jump | Mnemonic::Call(_) => &[Shape::Value],
         Mnemonic::Break => &[Shape::Value, Shape::Value],
-        Mnemonic::OneAndTarget(OneAndTarget::Bf(_)) => &[Shape::Boolean, Shape::Value],
+        Mnemonic::OneAndTarget(OneAndTarget::Test(_)) => &[Shape::Boolean, Shape::Value],
         Mnemonic::OneAndNumber(_) | Mnemonic::OneAndTarget(_) => &[Shape::Register, Shape::Value],
         Mnemonic::TwoAndNumber(_) | Mnemonic::TwoAndTarget(_) => {
             &[Shape::Register, Shape::Register, Shape::Value]
         }
         Mnemonic::Extui => &[Shape::Register, Shape::Register, Shape::Value, Shape::Value],
-        Mnemonic::OneAndSpecial(OneAndSpecial::Rsr(_)) => &[Shape::Register, Shape::Special],
-        Mnemonic::OneAndSpecial(OneAndSpecial::Rur(_)) => &[Shape::Register, Shape::User],
+        Mnemonic::OneAndSpecial(OneAndSpecial::Special(_)) => &[Shape::Register, Shape::Special],
+        Mnemonic::OneAndSpecial(OneAndSpecial::User(_)) => &[Shape::Register, Shape::User],
         Mnemonic::Literal => &[Shape::Register, Shape::Literal],
         Mnemonic::OneNumberAndTarget(_) => &[Shape::Register, Shape::Value, Shape::Value],
     }
@@ -72,13 +72,13 @@ pub fn is_narrow(mnemonic: Mnemonic) -> bool
 {
     matches!(
         mnemonic,
-        Mnemonic::Nothing(Plain::RetNarrow(_))
+        Mnemonic::Nothing(Plain::Bare(_))
             | Mnemonic::Two(Two::MovNarrow)
             | Mnemonic::Three(Three::AddNarrow)
             | Mnemonic::Number(Number::BreakNarrow)
             | Mnemonic::OneAndNumber(OneAndNumber::MoviNarrow)
-            | Mnemonic::OneAndTarget(OneAndTarget::BeqzNarrow(_))
-            | Mnemonic::TwoAndNumber(TwoAndNumber::L32iNarrow(_) | TwoAndNumber::AddiNarrow)
+            | Mnemonic::OneAndTarget(OneAndTarget::BranchZeroNarrow(_))
+            | Mnemonic::TwoAndNumber(TwoAndNumber::WordNarrow(_) | TwoAndNumber::AddiNarrow)
     )
 }
 
@@ -87,10 +87,10 @@ pub fn access_of(mnemonic: Mnemonic) -> Option<Access>
     ensures { result ≡ access_of mnemonic }
 {
     match mnemonic {
-        Mnemonic::OneAndSpecial(OneAndSpecial::Rsr(SpecialName::Rsr)) => Some(Access::Read),
-        Mnemonic::OneAndSpecial(OneAndSpecial::Rsr(SpecialName::Wsr)) => Some(Access::Write),
-        Mnemonic::OneAndSpecial(OneAndSpecial::Rsr(SpecialName::Xsr)) => Some(Access::Exchange),
-        Mnemonic::OneAndSpecial(OneAndSpecial::Rur(_)) => Some(Access::User),
+        Mnemonic::OneAndSpecial(OneAndSpecial::Special(SpecialName::Rsr)) => Some(Access::Read),
+        Mnemonic::OneAndSpecial(OneAndSpecial::Special(SpecialName::Wsr)) => Some(Access::Write),
+        Mnemonic::OneAndSpecial(OneAndSpecial::Special(SpecialName::Xsr)) => Some(Access::Exchange),
+        Mnemonic::OneAndSpecial(OneAndSpecial::User(_)) => Some(Access::User),
         _ => None,
     }
 }

@@ -3,14 +3,16 @@
 use xt_isa::boolean::{ChoiceName, EightName, FourName, LogicName, TestName};
 use xt_isa::control::{
     BitName, BranchName, CallName, CallxName, ConstName, ConstuName, LoopName, OppositeName,
-    RetName, ZeroName,
+    ReturnName, ZeroName,
 };
-use xt_isa::density::{NarrowName, NarrowRetName, NarrowZeroName};
+use xt_isa::density::{BareName, NarrowName, NarrowZeroName};
 use xt_isa::memory::{ByteName, HalfName, WindowName, WordName};
-use xt_isa::shift::{NegName, NsaName, SextName, SrlName, Ssa8Name, SsrName};
-use xt_isa::system::{ReturnName, SpecialName, SyncName, UserName, WaitName};
+use xt_isa::shift::{
+    AmountName, ByteAmountName, NormalizeName, ShiftRightName, SignName, SignedName,
+};
+use xt_isa::system::{ExceptionReturnName, SpecialName, SyncName, UserName, WaitName};
 use xt_isa::three::{
-    AddName, AndName, DivideName, MinName, MoveName, Mul16Name, MulHighName, SubName,
+    BitwiseName, DifferenceName, DivideName, MinMaxName, MoveName, Mul16Name, MulHighName, SumName,
 };
 
 /// A mnemonic: an instruction without its operands.
@@ -53,53 +55,53 @@ pub enum Mnemonic {
 /// The instructions without operands.
 #[derive(Clone, Copy)]
 pub enum Plain {
-    Ret(RetName),
-    Ill(SyncName),
-    Excw(WaitName),
-    Rfe(ReturnName),
+    Return(ReturnName),
+    Sync(SyncName),
+    Wait(WaitName),
+    ExceptionReturn(ExceptionReturnName),
     Syscall,
-    RetNarrow(NarrowRetName),
+    Bare(BareName),
 }
 
 /// The instructions of one register.
 #[derive(Clone, Copy)]
 pub enum One {
-    Ssr(SsrName),
-    Ssa8l(Ssa8Name),
+    Amount(AmountName),
+    ByteAmount(ByteAmountName),
     Jx,
-    Callx0(CallxName),
+    Callx(CallxName),
 }
 
 /// The instructions of two registers. `Mov` is OR with one source twice; `Any4` and `Any8` name Boolean registers.
 #[derive(Clone, Copy)]
 pub enum Two {
-    Neg(NegName),
-    Srl(SrlName),
+    Sign(SignName),
+    ShiftRight(ShiftRightName),
     Sll,
-    Nsa(NsaName),
+    Normalize(NormalizeName),
     Movsp,
     Mov,
     MovNarrow,
-    Any4(FourName),
-    Any8(EightName),
+    Four(FourName),
+    Eight(EightName),
 }
 
 /// The instructions of three registers. `Andb` names Boolean registers, and `Movf` has one as its third.
 #[derive(Clone, Copy)]
 pub enum Three {
-    And(AndName),
-    Add(AddName),
-    Sub(SubName),
+    Bitwise(BitwiseName),
+    Sum(SumName),
+    Difference(DifferenceName),
     Src,
-    Mul16u(Mul16Name),
+    Mul16(Mul16Name),
     Mull,
-    Muluh(MulHighName),
-    Quou(DivideName),
-    Min(MinName),
-    Moveqz(MoveName),
+    MulHigh(MulHighName),
+    Divide(DivideName),
+    MinMax(MinMaxName),
+    Move(MoveName),
     AddNarrow,
-    Andb(LogicName),
-    Movf(ChoiceName),
+    Logic(LogicName),
+    Choice(ChoiceName),
 }
 
 /// The instructions of a number.
@@ -124,25 +126,25 @@ pub enum OneAndNumber {
 /// The instructions of a register and a special or user register.
 #[derive(Clone, Copy)]
 pub enum OneAndSpecial {
-    Rsr(SpecialName),
-    Rur(UserName),
+    Special(SpecialName),
+    User(UserName),
 }
 
 /// The instructions of a register and a target. `Bf` names a Boolean register.
 #[derive(Clone, Copy)]
 pub enum OneAndTarget {
-    Beqz(ZeroName),
+    BranchZero(ZeroName),
     Loop(LoopName),
-    BeqzNarrow(NarrowZeroName),
-    Bf(TestName),
+    BranchZeroNarrow(NarrowZeroName),
+    Test(TestName),
 }
 
 /// The instructions of a register, a number and a target.
 #[derive(Clone, Copy)]
 pub enum OneNumberAndTarget {
-    Beqi(ConstName),
-    Bltui(ConstuName),
-    Bbci(BitName),
+    BranchConst(ConstName),
+    BranchConstu(ConstuName),
+    BranchBit(BitName),
 }
 
 /// The instructions of two registers and a number.
@@ -151,21 +153,21 @@ pub enum TwoAndNumber {
     Slli,
     Srai,
     Srli,
-    Sext(SextName),
-    L8ui(ByteName),
-    L16ui(HalfName),
-    L32i(WordName),
+    Signed(SignedName),
+    Byte(ByteName),
+    Half(HalfName),
+    Word(WordName),
     S32c1i,
-    L32e(WindowName),
+    Window(WindowName),
     Addi,
     Addmi,
-    L32iNarrow(NarrowName),
+    WordNarrow(NarrowName),
     AddiNarrow,
 }
 
 /// The instructions of two registers and a target.
 #[derive(Clone, Copy)]
 pub enum TwoAndTarget {
-    Bnone(BranchName),
-    Bany(OppositeName),
+    Branch(BranchName),
+    BranchNot(OppositeName),
 }

@@ -14,8 +14,8 @@ use xt_isa::control::{CallName, Control};
 use xt_isa::density::Density;
 use xt_isa::memory::Memory;
 use xt_isa::shift::Shift;
-use xt_isa::system::{BreakName, LevelName, System};
-use xt_isa::three::AndName;
+use xt_isa::system::{LevelName, System, TrapName};
+use xt_isa::three::BitwiseName;
 use xt_isa::{Insn, three};
 
 /// An instruction as its mnemonic and its operands in the order of the text, by their form. A register is 0 to 15. Of a
@@ -84,16 +84,16 @@ fn three_parts(i: three::Three) -> Parts
     ensures { result ≡ three_parts i }
 {
     match i {
-        three::Three::And(name, r, s, t) => Parts::Three(Three::And(name), (r, s, t)),
-        three::Three::Add(name, r, s, t) => Parts::Three(Three::Add(name), (r, s, t)),
-        three::Three::Sub(name, r, s, t) => Parts::Three(Three::Sub(name), (r, s, t)),
+        three::Three::Bitwise(name, r, s, t) => Parts::Three(Three::Bitwise(name), (r, s, t)),
+        three::Three::Sum(name, r, s, t) => Parts::Three(Three::Sum(name), (r, s, t)),
+        three::Three::Difference(name, r, s, t) => Parts::Three(Three::Difference(name), (r, s, t)),
         three::Three::Src(r, s, t) => Parts::Three(Three::Src, (r, s, t)),
-        three::Three::Mul16u(name, r, s, t) => Parts::Three(Three::Mul16u(name), (r, s, t)),
+        three::Three::Mul16(name, r, s, t) => Parts::Three(Three::Mul16(name), (r, s, t)),
         three::Three::Mull(r, s, t) => Parts::Three(Three::Mull, (r, s, t)),
-        three::Three::Muluh(name, r, s, t) => Parts::Three(Three::Muluh(name), (r, s, t)),
-        three::Three::Quou(name, r, s, t) => Parts::Three(Three::Quou(name), (r, s, t)),
-        three::Three::Min(name, r, s, t) => Parts::Three(Three::Min(name), (r, s, t)),
-        three::Three::Moveqz(name, r, s, t) => Parts::Three(Three::Moveqz(name), (r, s, t)),
+        three::Three::MulHigh(name, r, s, t) => Parts::Three(Three::MulHigh(name), (r, s, t)),
+        three::Three::Divide(name, r, s, t) => Parts::Three(Three::Divide(name), (r, s, t)),
+        three::Three::MinMax(name, r, s, t) => Parts::Three(Three::MinMax(name), (r, s, t)),
+        three::Three::Move(name, r, s, t) => Parts::Three(Three::Move(name), (r, s, t)),
     }
 }
 
@@ -101,18 +101,18 @@ fn shift_parts(i: Shift) -> Parts
     ensures { result ≡ shift_parts i }
 {
     match i {
-        Shift::Neg(name, r, t) => Parts::Two(Two::Neg(name), (r, t)),
-        Shift::Srl(name, r, t) => Parts::Two(Two::Srl(name), (r, t)),
+        Shift::Sign(name, r, t) => Parts::Two(Two::Sign(name), (r, t)),
+        Shift::ShiftRight(name, r, t) => Parts::Two(Two::ShiftRight(name), (r, t)),
         Shift::Sll(r, s) => Parts::Two(Two::Sll, (r, s)),
         Shift::Slli(r, s, n) => Parts::TwoAndNumber(TwoAndNumber::Slli, (r, s, n)),
         Shift::Srai(r, t, n) => Parts::TwoAndNumber(TwoAndNumber::Srai, (r, t, n)),
         Shift::Srli(r, t, n) => Parts::TwoAndNumber(TwoAndNumber::Srli, (r, t, n)),
         Shift::Extui(r, t, n, w) => Parts::Extui((r, t, n, w)),
-        Shift::Sext(name, r, s, b) => Parts::TwoAndNumber(TwoAndNumber::Sext(name), (r, s, b)),
-        Shift::Nsa(name, t, s) => Parts::Two(Two::Nsa(name), (t, s)),
+        Shift::Signed(name, r, s, b) => Parts::TwoAndNumber(TwoAndNumber::Signed(name), (r, s, b)),
+        Shift::Normalize(name, t, s) => Parts::Two(Two::Normalize(name), (t, s)),
         Shift::Movsp(t, s) => Parts::Two(Two::Movsp, (t, s)),
-        Shift::Ssr(name, s) => Parts::One(One::Ssr(name), s),
-        Shift::Ssa8l(name, s) => Parts::One(One::Ssa8l(name), s),
+        Shift::Amount(name, s) => Parts::One(One::Amount(name), s),
+        Shift::ByteAmount(name, s) => Parts::One(One::ByteAmount(name), s),
         Shift::Ssai(n) => Parts::Number(Number::Ssai, n),
     }
 }
@@ -121,11 +121,11 @@ fn memory_parts(i: Memory) -> Parts
     ensures { result ≡ memory_parts i }
 {
     match i {
-        Memory::L8ui(name, t, s, n) => Parts::TwoAndNumber(TwoAndNumber::L8ui(name), (t, s, n)),
-        Memory::L16ui(name, t, s, n) => Parts::TwoAndNumber(TwoAndNumber::L16ui(name), (t, s, n)),
-        Memory::L32i(name, t, s, n) => Parts::TwoAndNumber(TwoAndNumber::L32i(name), (t, s, n)),
+        Memory::Byte(name, t, s, n) => Parts::TwoAndNumber(TwoAndNumber::Byte(name), (t, s, n)),
+        Memory::Half(name, t, s, n) => Parts::TwoAndNumber(TwoAndNumber::Half(name), (t, s, n)),
+        Memory::Word(name, t, s, n) => Parts::TwoAndNumber(TwoAndNumber::Word(name), (t, s, n)),
         Memory::S32c1i(t, s, n) => Parts::TwoAndNumber(TwoAndNumber::S32c1i, (t, s, n)),
-        Memory::L32e(name, t, s, n) => Parts::TwoAndNumber(TwoAndNumber::L32e(name), (t, s, n)),
+        Memory::Window(name, t, s, n) => Parts::TwoAndNumber(TwoAndNumber::Window(name), (t, s, n)),
         Memory::L32r(t, offset) => Parts::Literal((t, offset)),
         Memory::Movi(t, n) => Parts::OneAndNumber(OneAndNumber::Movi, (t, n)),
         Memory::Addi(t, s, n) => Parts::TwoAndNumber(TwoAndNumber::Addi, (t, s, n)),
@@ -138,23 +138,29 @@ fn control_parts(i: Control) -> Parts
 {
     match i {
         Control::J(d) => Parts::Jump(d),
-        Control::Call0(name, d) => Parts::Call(name, d),
-        Control::Ret(name) => Parts::Nothing(Plain::Ret(name)),
+        Control::Call(name, d) => Parts::Call(name, d),
+        Control::Return(name) => Parts::Nothing(Plain::Return(name)),
         Control::Jx(s) => Parts::One(One::Jx, s),
-        Control::Callx0(name, s) => Parts::One(One::Callx0(name), s),
-        Control::Beqz(name, s, d) => Parts::OneAndTarget(OneAndTarget::Beqz(name), (s, d)),
-        Control::Beqi(name, s, c, d) => {
-            Parts::OneNumberAndTarget(OneNumberAndTarget::Beqi(name), (s, c, d))
+        Control::Callx(name, s) => Parts::One(One::Callx(name), s),
+        Control::BranchZero(name, s, d) => Parts::OneAndTarget(
+            OneAndTarget::BranchZero(name),
+            (s, d),
+        ),
+        Control::BranchConst(name, s, c, d) => {
+            Parts::OneNumberAndTarget(OneNumberAndTarget::BranchConst(name), (s, c, d))
         }
-        Control::Bltui(name, s, c, d) => {
-            Parts::OneNumberAndTarget(OneNumberAndTarget::Bltui(name), (s, c, d))
+        Control::BranchConstu(name, s, c, d) => {
+            Parts::OneNumberAndTarget(OneNumberAndTarget::BranchConstu(name), (s, c, d))
         }
-        Control::Bnone(name, s, t, d) => {
-            Parts::TwoAndTarget(TwoAndTarget::Bnone(name), (s, t, d))
+        Control::Branch(name, s, t, d) => {
+            Parts::TwoAndTarget(TwoAndTarget::Branch(name), (s, t, d))
         }
-        Control::Bany(name, s, t, d) => Parts::TwoAndTarget(TwoAndTarget::Bany(name), (s, t, d)),
-        Control::Bbci(name, s, b, d) => {
-            Parts::OneNumberAndTarget(OneNumberAndTarget::Bbci(name), (s, b, d))
+        Control::BranchNot(name, s, t, d) => Parts::TwoAndTarget(
+            TwoAndTarget::BranchNot(name),
+            (s, t, d),
+        ),
+        Control::BranchBit(name, s, b, d) => {
+            Parts::OneNumberAndTarget(OneNumberAndTarget::BranchBit(name), (s, b, d))
         }
         Control::Entry(s, n) => Parts::OneAndNumber(OneAndNumber::Entry, (s, n)),
         Control::Loop(name, s, d) => Parts::OneAndTarget(OneAndTarget::Loop(name), (s, d)),
@@ -165,17 +171,17 @@ fn system_parts(i: System) -> Parts
     ensures { result ≡ system_parts i }
 {
     match i {
-        System::Ill(name) => Parts::Nothing(Plain::Ill(name)),
-        System::Excw(name) => Parts::Nothing(Plain::Excw(name)),
-        System::Rfe(name) => Parts::Nothing(Plain::Rfe(name)),
+        System::Sync(name) => Parts::Nothing(Plain::Sync(name)),
+        System::Wait(name) => Parts::Nothing(Plain::Wait(name)),
+        System::ExceptionReturn(name) => Parts::Nothing(Plain::ExceptionReturn(name)),
         System::Rfi(l) => Parts::Number(Number::Rfi, l),
-        System::Break(BreakName::Break, x, y) => Parts::Break((x, y)),
-        System::Break(BreakName::Syscall, _, _) => Parts::Nothing(Plain::Syscall),
-        System::Rsil(LevelName::Rsil, t, l) => Parts::OneAndNumber(OneAndNumber::Rsil, (t, l)),
-        System::Rsil(LevelName::Waiti, _, l) => Parts::Number(Number::Waiti, l),
+        System::Trap(TrapName::Break, x, y) => Parts::Break((x, y)),
+        System::Trap(TrapName::Syscall, _, _) => Parts::Nothing(Plain::Syscall),
+        System::Level(LevelName::Rsil, t, l) => Parts::OneAndNumber(OneAndNumber::Rsil, (t, l)),
+        System::Level(LevelName::Waiti, _, l) => Parts::Number(Number::Waiti, l),
         System::Rotw(n) => Parts::Number(Number::Rotw, n),
-        System::Rsr(name, t, n) => Parts::OneAndSpecial(OneAndSpecial::Rsr(name), (t, n)),
-        System::Rur(name, r, n) => Parts::OneAndSpecial(OneAndSpecial::Rur(name), (r, n)),
+        System::Special(name, t, n) => Parts::OneAndSpecial(OneAndSpecial::Special(name), (t, n)),
+        System::User(name, r, n) => Parts::OneAndSpecial(OneAndSpecial::User(name), (r, n)),
     }
 }
 
@@ -183,15 +189,18 @@ fn density_parts(i: Density) -> Parts
     ensures { result ≡ density_parts i }
 {
     match i {
-        Density::L32i(name, t, s, n) => {
-            Parts::TwoAndNumber(TwoAndNumber::L32iNarrow(name), (t, s, n))
+        Density::Word(name, t, s, n) => {
+            Parts::TwoAndNumber(TwoAndNumber::WordNarrow(name), (t, s, n))
         }
         Density::Add(r, s, t) => Parts::Three(Three::AddNarrow, (r, s, t)),
         Density::Addi(r, s, n) => Parts::TwoAndNumber(TwoAndNumber::AddiNarrow, (r, s, n)),
         Density::Movi(s, n) => Parts::OneAndNumber(OneAndNumber::MoviNarrow, (s, n)),
-        Density::Beqz(name, s, d) => Parts::OneAndTarget(OneAndTarget::BeqzNarrow(name), (s, d)),
+        Density::BranchZero(name, s, d) => Parts::OneAndTarget(
+            OneAndTarget::BranchZeroNarrow(name),
+            (s, d),
+        ),
         Density::Mov(t, s) => Parts::Two(Two::MovNarrow, (t, s)),
-        Density::Ret(name) => Parts::Nothing(Plain::RetNarrow(name)),
+        Density::Bare(name) => Parts::Nothing(Plain::Bare(name)),
         Density::Break(n) => Parts::Number(Number::BreakNarrow, n),
     }
 }
@@ -200,11 +209,11 @@ fn boolean_parts(i: Boolean) -> Parts
     ensures { result ≡ boolean_parts i }
 {
     match i {
-        Boolean::Andb(name, r, s, t) => Parts::Three(Three::Andb(name), (r, s, t)),
-        Boolean::Any4(name, t, s) => Parts::Two(Two::Any4(name), (t, s)),
-        Boolean::Any8(name, t, s) => Parts::Two(Two::Any8(name), (t, s)),
-        Boolean::Bf(name, s, d) => Parts::OneAndTarget(OneAndTarget::Bf(name), (s, d)),
-        Boolean::Movf(name, r, s, t) => Parts::Three(Three::Movf(name), (r, s, t)),
+        Boolean::Logic(name, r, s, t) => Parts::Three(Three::Logic(name), (r, s, t)),
+        Boolean::Four(name, t, s) => Parts::Two(Two::Four(name), (t, s)),
+        Boolean::Eight(name, t, s) => Parts::Two(Two::Eight(name), (t, s)),
+        Boolean::Test(name, s, d) => Parts::OneAndTarget(OneAndTarget::Test(name), (s, d)),
+        Boolean::Choice(name, r, s, t) => Parts::Three(Three::Choice(name), (r, s, t)),
     }
 }
 
@@ -228,12 +237,12 @@ fn of_plain(name: Plain) -> Insn
     ensures { result ≡ of_plain name }
 {
     match name {
-        Plain::Ret(name) => Insn::Control(Control::Ret(name)),
-        Plain::Ill(name) => Insn::System(System::Ill(name)),
-        Plain::Excw(name) => Insn::System(System::Excw(name)),
-        Plain::Rfe(name) => Insn::System(System::Rfe(name)),
-        Plain::Syscall => Insn::System(System::Break(BreakName::Syscall, 0, 0)),
-        Plain::RetNarrow(name) => Insn::Density(Density::Ret(name)),
+        Plain::Return(name) => Insn::Control(Control::Return(name)),
+        Plain::Sync(name) => Insn::System(System::Sync(name)),
+        Plain::Wait(name) => Insn::System(System::Wait(name)),
+        Plain::ExceptionReturn(name) => Insn::System(System::ExceptionReturn(name)),
+        Plain::Syscall => Insn::System(System::Trap(TrapName::Syscall, 0, 0)),
+        Plain::Bare(name) => Insn::Density(Density::Bare(name)),
     }
 }
 
@@ -242,10 +251,10 @@ fn of_one(name: One, s: u8) -> Insn
     ensures { result ≡ of_one name s }
 {
     match name {
-        One::Ssr(name) => Insn::Shift(Shift::Ssr(name, s)),
-        One::Ssa8l(name) => Insn::Shift(Shift::Ssa8l(name, s)),
+        One::Amount(name) => Insn::Shift(Shift::Amount(name, s)),
+        One::ByteAmount(name) => Insn::Shift(Shift::ByteAmount(name, s)),
         One::Jx => Insn::Control(Control::Jx(s)),
-        One::Callx0(name) => Insn::Control(Control::Callx0(name, s)),
+        One::Callx(name) => Insn::Control(Control::Callx(name, s)),
     }
 }
 
@@ -254,15 +263,15 @@ fn of_two(name: Two, a: u8, b: u8) -> Insn
     ensures { result ≡ of_two name a b }
 {
     match name {
-        Two::Neg(name) => Insn::Shift(Shift::Neg(name, a, b)),
-        Two::Srl(name) => Insn::Shift(Shift::Srl(name, a, b)),
+        Two::Sign(name) => Insn::Shift(Shift::Sign(name, a, b)),
+        Two::ShiftRight(name) => Insn::Shift(Shift::ShiftRight(name, a, b)),
         Two::Sll => Insn::Shift(Shift::Sll(a, b)),
-        Two::Nsa(name) => Insn::Shift(Shift::Nsa(name, a, b)),
+        Two::Normalize(name) => Insn::Shift(Shift::Normalize(name, a, b)),
         Two::Movsp => Insn::Shift(Shift::Movsp(a, b)),
-        Two::Mov => Insn::Three(three::Three::And(AndName::Or, a, b, b)),
+        Two::Mov => Insn::Three(three::Three::Bitwise(BitwiseName::Or, a, b, b)),
         Two::MovNarrow => Insn::Density(Density::Mov(a, b)),
-        Two::Any4(name) => Insn::Boolean(Boolean::Any4(name, a, b)),
-        Two::Any8(name) => Insn::Boolean(Boolean::Any8(name, a, b)),
+        Two::Four(name) => Insn::Boolean(Boolean::Four(name, a, b)),
+        Two::Eight(name) => Insn::Boolean(Boolean::Eight(name, a, b)),
     }
 }
 
@@ -271,19 +280,19 @@ fn of_three(name: Three, r: u8, s: u8, t: u8) -> Insn
     ensures { result ≡ of_three name r s t }
 {
     match name {
-        Three::And(name) => Insn::Three(three::Three::And(name, r, s, t)),
-        Three::Add(name) => Insn::Three(three::Three::Add(name, r, s, t)),
-        Three::Sub(name) => Insn::Three(three::Three::Sub(name, r, s, t)),
+        Three::Bitwise(name) => Insn::Three(three::Three::Bitwise(name, r, s, t)),
+        Three::Sum(name) => Insn::Three(three::Three::Sum(name, r, s, t)),
+        Three::Difference(name) => Insn::Three(three::Three::Difference(name, r, s, t)),
         Three::Src => Insn::Three(three::Three::Src(r, s, t)),
-        Three::Mul16u(name) => Insn::Three(three::Three::Mul16u(name, r, s, t)),
+        Three::Mul16(name) => Insn::Three(three::Three::Mul16(name, r, s, t)),
         Three::Mull => Insn::Three(three::Three::Mull(r, s, t)),
-        Three::Muluh(name) => Insn::Three(three::Three::Muluh(name, r, s, t)),
-        Three::Quou(name) => Insn::Three(three::Three::Quou(name, r, s, t)),
-        Three::Min(name) => Insn::Three(three::Three::Min(name, r, s, t)),
-        Three::Moveqz(name) => Insn::Three(three::Three::Moveqz(name, r, s, t)),
+        Three::MulHigh(name) => Insn::Three(three::Three::MulHigh(name, r, s, t)),
+        Three::Divide(name) => Insn::Three(three::Three::Divide(name, r, s, t)),
+        Three::MinMax(name) => Insn::Three(three::Three::MinMax(name, r, s, t)),
+        Three::Move(name) => Insn::Three(three::Three::Move(name, r, s, t)),
         Three::AddNarrow => Insn::Density(Density::Add(r, s, t)),
-        Three::Andb(name) => Insn::Boolean(Boolean::Andb(name, r, s, t)),
-        Three::Movf(name) => Insn::Boolean(Boolean::Movf(name, r, s, t)),
+        Three::Logic(name) => Insn::Boolean(Boolean::Logic(name, r, s, t)),
+        Three::Choice(name) => Insn::Boolean(Boolean::Choice(name, r, s, t)),
     }
 }
 
@@ -294,7 +303,7 @@ fn of_number(name: Number, n: i32) -> Insn
     match name {
         Number::Ssai => Insn::Shift(Shift::Ssai(n)),
         Number::Rfi => Insn::System(System::Rfi(n)),
-        Number::Waiti => Insn::System(System::Rsil(LevelName::Waiti, 0, n)),
+        Number::Waiti => Insn::System(System::Level(LevelName::Waiti, 0, n)),
         Number::Rotw => Insn::System(System::Rotw(n)),
         Number::BreakNarrow => Insn::Density(Density::Break(n)),
     }
@@ -306,7 +315,7 @@ fn of_one_and_number(name: OneAndNumber, s: u8, n: i32) -> Insn
 {
     match name {
         OneAndNumber::Movi => Insn::Memory(Memory::Movi(s, n)),
-        OneAndNumber::Rsil => Insn::System(System::Rsil(LevelName::Rsil, s, n)),
+        OneAndNumber::Rsil => Insn::System(System::Level(LevelName::Rsil, s, n)),
         OneAndNumber::Entry => Insn::Control(Control::Entry(s, n)),
         OneAndNumber::MoviNarrow => Insn::Density(Density::Movi(s, n)),
     }
@@ -317,8 +326,8 @@ fn of_one_and_special(name: OneAndSpecial, t: u8, n: u8) -> Insn
     ensures { result ≡ of_one_and_special name t n }
 {
     match name {
-        OneAndSpecial::Rsr(name) => Insn::System(System::Rsr(name, t, n)),
-        OneAndSpecial::Rur(name) => Insn::System(System::Rur(name, t, n)),
+        OneAndSpecial::Special(name) => Insn::System(System::Special(name, t, n)),
+        OneAndSpecial::User(name) => Insn::System(System::User(name, t, n)),
     }
 }
 
@@ -327,10 +336,10 @@ fn of_one_and_target(name: OneAndTarget, s: u8, offset: i32) -> Insn
     ensures { result ≡ of_one_and_target name s offset }
 {
     match name {
-        OneAndTarget::Beqz(name) => Insn::Control(Control::Beqz(name, s, offset)),
+        OneAndTarget::BranchZero(name) => Insn::Control(Control::BranchZero(name, s, offset)),
         OneAndTarget::Loop(name) => Insn::Control(Control::Loop(name, s, offset)),
-        OneAndTarget::BeqzNarrow(name) => Insn::Density(Density::Beqz(name, s, offset)),
-        OneAndTarget::Bf(name) => Insn::Boolean(Boolean::Bf(name, s, offset)),
+        OneAndTarget::BranchZeroNarrow(name) => Insn::Density(Density::BranchZero(name, s, offset)),
+        OneAndTarget::Test(name) => Insn::Boolean(Boolean::Test(name, s, offset)),
     }
 }
 
@@ -339,9 +348,15 @@ fn of_one_number_and_target(name: OneNumberAndTarget, s: u8, n: i32, offset: i32
     ensures { result ≡ of_one_number_and_target name s n offset }
 {
     match name {
-        OneNumberAndTarget::Beqi(name) => Insn::Control(Control::Beqi(name, s, n, offset)),
-        OneNumberAndTarget::Bltui(name) => Insn::Control(Control::Bltui(name, s, n, offset)),
-        OneNumberAndTarget::Bbci(name) => Insn::Control(Control::Bbci(name, s, n, offset)),
+        OneNumberAndTarget::BranchConst(name) => Insn::Control(Control::BranchConst(
+            name, s, n, offset,
+        )),
+        OneNumberAndTarget::BranchConstu(name) => Insn::Control(Control::BranchConstu(
+            name, s, n, offset,
+        )),
+        OneNumberAndTarget::BranchBit(name) => Insn::Control(Control::BranchBit(
+            name, s, n, offset,
+        )),
     }
 }
 
@@ -353,15 +368,15 @@ fn of_two_and_number(name: TwoAndNumber, a: u8, b: u8, n: i32) -> Insn
         TwoAndNumber::Slli => Insn::Shift(Shift::Slli(a, b, n)),
         TwoAndNumber::Srai => Insn::Shift(Shift::Srai(a, b, n)),
         TwoAndNumber::Srli => Insn::Shift(Shift::Srli(a, b, n)),
-        TwoAndNumber::Sext(name) => Insn::Shift(Shift::Sext(name, a, b, n)),
-        TwoAndNumber::L8ui(name) => Insn::Memory(Memory::L8ui(name, a, b, n)),
-        TwoAndNumber::L16ui(name) => Insn::Memory(Memory::L16ui(name, a, b, n)),
-        TwoAndNumber::L32i(name) => Insn::Memory(Memory::L32i(name, a, b, n)),
+        TwoAndNumber::Signed(name) => Insn::Shift(Shift::Signed(name, a, b, n)),
+        TwoAndNumber::Byte(name) => Insn::Memory(Memory::Byte(name, a, b, n)),
+        TwoAndNumber::Half(name) => Insn::Memory(Memory::Half(name, a, b, n)),
+        TwoAndNumber::Word(name) => Insn::Memory(Memory::Word(name, a, b, n)),
         TwoAndNumber::S32c1i => Insn::Memory(Memory::S32c1i(a, b, n)),
-        TwoAndNumber::L32e(name) => Insn::Memory(Memory::L32e(name, a, b, n)),
+        TwoAndNumber::Window(name) => Insn::Memory(Memory::Window(name, a, b, n)),
         TwoAndNumber::Addi => Insn::Memory(Memory::Addi(a, b, n)),
         TwoAndNumber::Addmi => Insn::Memory(Memory::Addmi(a, b, n)),
-        TwoAndNumber::L32iNarrow(name) => Insn::Density(Density::L32i(name, a, b, n)),
+        TwoAndNumber::WordNarrow(name) => Insn::Density(Density::Word(name, a, b, n)),
         TwoAndNumber::AddiNarrow => Insn::Density(Density::Addi(a, b, n)),
     }
 }
@@ -371,8 +386,8 @@ fn of_two_and_target(name: TwoAndTarget, s: u8, t: u8, offset: i32) -> Insn
     ensures { result ≡ of_two_and_target name s t offset }
 {
     match name {
-        TwoAndTarget::Bnone(name) => Insn::Control(Control::Bnone(name, s, t, offset)),
-        TwoAndTarget::Bany(name) => Insn::Control(Control::Bany(name, s, t, offset)),
+        TwoAndTarget::Branch(name) => Insn::Control(Control::Branch(name, s, t, offset)),
+        TwoAndTarget::BranchNot(name) => Insn::Control(Control::BranchNot(name, s, t, offset)),
     }
 }
 
@@ -387,13 +402,13 @@ pub fn insn_of(parts: Parts) -> Insn
         Parts::Two(name, (a, b)) => of_two(name, a, b),
         Parts::Three(name, (r, s, t)) => of_three(name, r, s, t),
         Parts::Number(name, n) => of_number(name, n),
-        Parts::Break((x, y)) => Insn::System(System::Break(BreakName::Break, x, y)),
+        Parts::Break((x, y)) => Insn::System(System::Trap(TrapName::Break, x, y)),
         Parts::OneAndNumber(name, (s, n)) => of_one_and_number(name, s, n),
         Parts::TwoAndNumber(name, (a, b, n)) => of_two_and_number(name, a, b, n),
         Parts::Extui((r, t, n, w)) => Insn::Shift(Shift::Extui(r, t, n, w)),
         Parts::OneAndSpecial(name, (t, n)) => of_one_and_special(name, t, n),
         Parts::Jump(d) => Insn::Control(Control::J(d)),
-        Parts::Call(name, d) => Insn::Control(Control::Call0(name, d)),
+        Parts::Call(name, d) => Insn::Control(Control::Call(name, d)),
         Parts::Literal((t, d)) => Insn::Memory(Memory::L32r(t, d)),
         Parts::OneAndTarget(name, (s, d)) => of_one_and_target(name, s, d),
         Parts::OneNumberAndTarget(name, (s, n, d)) => of_one_number_and_target(name, s, n, d),

@@ -4,9 +4,9 @@ use Rattle.std.specs.Prelude.{nat_lt}
 use Rattle.xt_isa.specs.declared.Insn.{Insn}
 use Rattle.xt_isa.specs.declared.Insn.TheVariants as insn
 use Rattle.xt_isa.specs.declared.control.Control.TheVariants as control
-use Rattle.xt_isa.specs.declared.control.RetName.TheVariants as RetName
+use Rattle.xt_isa.specs.declared.control.ReturnName.TheVariants as ReturnName
 use Rattle.xt_isa.specs.declared.density.Density.TheVariants as density
-use Rattle.xt_isa.specs.declared.density.NarrowRetName.TheVariants as NarrowRetName
+use Rattle.xt_isa.specs.declared.density.BareName.TheVariants as BareName
 use Rattle.xt_special.specs.Control.{Control, special_of}
 use Rattle.xt_special.specs.Interrupts.{pending_of}
 use Rattle.xt_special.specs.Numbers as number
@@ -89,8 +89,8 @@ module _ (R : List ℕ) where
     same_illegal : (i : Insn) → Agree i → is_illegal i (other s) ≡ is_illegal i s
     unfolding is_illegal reads
     same_illegal (insn.Control (control.Entry number size)) h = refl
-    same_illegal (insn.Control (control.Ret RetName.Retw)) h = same_return h.0
-    same_illegal (insn.Density (density.Ret NarrowRetName.Retw)) h = same_return h.0
+    same_illegal (insn.Control (control.Return ReturnName.Retw)) h = same_return h.0
+    same_illegal (insn.Density (density.Bare BareName.Retw)) h = same_return h.0
     same_illegal _ h = refl
 
     checked_with : (n : ℕ) (i : Insn) (len : ℕ) → Agree i → turn_or_overflow n code i len (other s) ≡ with_regs R (turn_or_overflow n code i len s)

@@ -11,9 +11,9 @@ use Rattle.std.specs.Prelude.{ℕ, ◌+◌, ◌-◌, List, [], ◌∷◌, length
 use Rattle.xt_isa.specs.declared.Insn.{Insn}
 use Rattle.xt_isa.specs.declared.Insn.TheVariants as insn
 use Rattle.xt_isa.specs.declared.control.Control.TheVariants as control
-use Rattle.xt_isa.specs.declared.control.RetName.TheVariants as ret
+use Rattle.xt_isa.specs.declared.control.ReturnName.TheVariants as ret
 use Rattle.xt_isa.specs.declared.density.Density.TheVariants as density
-use Rattle.xt_isa.specs.declared.density.NarrowRetName.TheVariants as narrow
+use Rattle.xt_isa.specs.declared.density.BareName.TheVariants as narrow
 use Rattle.xt_fetch.specs.Fetching.{Fetched, Fetches, Fails, SpellsNothing, fetch_at}
 use Rattle.xt_trace.specs.declared.record.StepKind.{StepKind}
 use Rattle.xt_trace.specs.declared.record.StepKind.TheVariants as kind
@@ -27,8 +27,8 @@ use Rattle.xt_profile.specs.Steps.{Step, frames_standing}
 -- what an instruction does to the functions of a core
 unfoldable pub change_by : Insn → Change
 change_by (insn.Control (control.Entry s n)) = Calls
-change_by (insn.Control (control.Ret ret.Retw)) = Returns
-change_by (insn.Density (density.Ret narrow.Retw)) = Returns
+change_by (insn.Control (control.Return ret.Retw)) = Returns
+change_by (insn.Density (density.Bare narrow.Retw)) = Returns
 change_by _ = Stays
 
 abbrev pub change_fetched : Fetched → Change

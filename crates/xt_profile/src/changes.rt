@@ -8,8 +8,8 @@ ghost use Rattle.xt_profile.specs.After.{change_at, change_by, change_of};
 use xt_codec::{Fetch, instruction_at};
 use xt_frames::HandlerPhase;
 use xt_isa::Insn;
-use xt_isa::control::{Control, RetName};
-use xt_isa::density::{Density, NarrowRetName};
+use xt_isa::control::{Control, ReturnName};
+use xt_isa::density::{BareName, Density};
 use xt_map::Constants;
 use xt_trace::{StepKind, StepRecord};
 
@@ -30,8 +30,8 @@ fn change_by(insn: Insn) -> Change
 {
     match insn {
         Insn::Control(Control::Entry(_, _)) => Change::Calls,
-        Insn::Control(Control::Ret(RetName::Retw)) => Change::Returns,
-        Insn::Density(Density::Ret(NarrowRetName::Retw)) => Change::Returns,
+        Insn::Control(Control::Return(ReturnName::Retw)) => Change::Returns,
+        Insn::Density(Density::Bare(BareName::Retw)) => Change::Returns,
         _ => Change::Stays,
     }
 }

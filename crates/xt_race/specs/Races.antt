@@ -38,8 +38,8 @@ use Rattle.xt_race.specs.declared.race.Race.{Race}
 
 -- how an instruction orders
 unfoldable pub order_in : Insn → Synchronization
-order_in (insn.Memory (memory.L32i WordName.L32ai t s offset)) = order.Acquire
-order_in (insn.Memory (memory.L32i WordName.S32ri t s offset)) = order.Release
+order_in (insn.Memory (memory.Word WordName.L32ai t s offset)) = order.Acquire
+order_in (insn.Memory (memory.Word WordName.S32ri t s offset)) = order.Release
 order_in (insn.Memory (memory.S32c1i t s offset)) = order.Swap
 order_in _ = order.Plain
 

@@ -44,8 +44,8 @@ fn order_in(insn: Insn) -> Synchronization
     ensures { result ≡ order_in insn }
 {
     match insn {
-        Insn::Memory(Memory::L32i(WordName::L32ai, _, _, _)) => Synchronization::Acquire,
-        Insn::Memory(Memory::L32i(WordName::S32ri, _, _, _)) => Synchronization::Release,
+        Insn::Memory(Memory::Word(WordName::L32ai, _, _, _)) => Synchronization::Acquire,
+        Insn::Memory(Memory::Word(WordName::S32ri, _, _, _)) => Synchronization::Release,
         Insn::Memory(Memory::S32c1i(_, _, _)) => Synchronization::Swap,
         _ => Synchronization::Plain,
     }

@@ -9,22 +9,22 @@ use Rattle.xt_isa.specs.declared.Insn.{Insn}
 use Rattle.xt_isa.specs.declared.Insn.TheVariants as insn
 use Rattle.xt_isa.specs.declared.three.Three.{Three}
 use Rattle.xt_isa.specs.declared.three.Three.TheVariants as three
-use Rattle.xt_isa.specs.declared.three.AndName.TheVariants as AndName
-use Rattle.xt_isa.specs.declared.three.AddName.TheVariants as AddName
-use Rattle.xt_isa.specs.declared.three.SubName.TheVariants as SubName
+use Rattle.xt_isa.specs.declared.three.BitwiseName.TheVariants as BitwiseName
+use Rattle.xt_isa.specs.declared.three.SumName.TheVariants as SumName
+use Rattle.xt_isa.specs.declared.three.DifferenceName.TheVariants as DifferenceName
 use Rattle.xt_isa.specs.declared.three.Mul16Name.TheVariants as Mul16Name
 use Rattle.xt_isa.specs.declared.three.MulHighName.TheVariants as MulHighName
 use Rattle.xt_isa.specs.declared.three.DivideName.TheVariants as DivideName
-use Rattle.xt_isa.specs.declared.three.MinName.TheVariants as MinName
+use Rattle.xt_isa.specs.declared.three.MinMaxName.TheVariants as MinMaxName
 use Rattle.xt_isa.specs.declared.three.MoveName.TheVariants as MoveName
 use Rattle.xt_isa.specs.declared.shift.Shift.{Shift}
 use Rattle.xt_isa.specs.declared.shift.Shift.TheVariants as shift
-use Rattle.xt_isa.specs.declared.shift.NegName.TheVariants as NegName
-use Rattle.xt_isa.specs.declared.shift.SrlName.TheVariants as SrlName
-use Rattle.xt_isa.specs.declared.shift.SextName.TheVariants as SextName
-use Rattle.xt_isa.specs.declared.shift.NsaName.TheVariants as NsaName
-use Rattle.xt_isa.specs.declared.shift.SsrName.TheVariants as SsrName
-use Rattle.xt_isa.specs.declared.shift.Ssa8Name.TheVariants as Ssa8Name
+use Rattle.xt_isa.specs.declared.shift.SignName.TheVariants as SignName
+use Rattle.xt_isa.specs.declared.shift.ShiftRightName.TheVariants as ShiftRightName
+use Rattle.xt_isa.specs.declared.shift.SignedName.TheVariants as SignedName
+use Rattle.xt_isa.specs.declared.shift.NormalizeName.TheVariants as NormalizeName
+use Rattle.xt_isa.specs.declared.shift.AmountName.TheVariants as AmountName
+use Rattle.xt_isa.specs.declared.shift.ByteAmountName.TheVariants as ByteAmountName
 use Rattle.xt_isa.specs.declared.memory.Memory.{Memory}
 use Rattle.xt_isa.specs.declared.memory.Memory.TheVariants as memory
 use Rattle.xt_isa.specs.declared.memory.ByteName.TheVariants as ByteName
@@ -33,7 +33,7 @@ use Rattle.xt_isa.specs.declared.memory.WordName.TheVariants as WordName
 use Rattle.xt_isa.specs.declared.memory.WindowName.TheVariants as WindowName
 use Rattle.xt_isa.specs.declared.control.Control.{Control}
 use Rattle.xt_isa.specs.declared.control.Control.TheVariants as control
-use Rattle.xt_isa.specs.declared.control.RetName.TheVariants as RetName
+use Rattle.xt_isa.specs.declared.control.ReturnName.TheVariants as ReturnName
 use Rattle.xt_isa.specs.declared.control.ZeroName.TheVariants as ZeroName
 use Rattle.xt_isa.specs.declared.control.ConstName.TheVariants as ConstName
 use Rattle.xt_isa.specs.declared.control.ConstuName.TheVariants as ConstuName
@@ -45,8 +45,8 @@ use Rattle.xt_isa.specs.declared.system.System.{System}
 use Rattle.xt_isa.specs.declared.system.System.TheVariants as system
 use Rattle.xt_isa.specs.declared.system.SyncName.TheVariants as SyncName
 use Rattle.xt_isa.specs.declared.system.WaitName.TheVariants as WaitName
-use Rattle.xt_isa.specs.declared.system.ReturnName.TheVariants as ReturnName
-use Rattle.xt_isa.specs.declared.system.BreakName.TheVariants as BreakName
+use Rattle.xt_isa.specs.declared.system.ExceptionReturnName.TheVariants as ExceptionReturnName
+use Rattle.xt_isa.specs.declared.system.TrapName.TheVariants as TrapName
 use Rattle.xt_isa.specs.declared.system.LevelName.TheVariants as LevelName
 use Rattle.xt_isa.specs.declared.system.SpecialName.TheVariants as SpecialName
 use Rattle.xt_isa.specs.declared.system.UserName.TheVariants as UserName
@@ -54,7 +54,7 @@ use Rattle.xt_isa.specs.declared.density.Density.{Density}
 use Rattle.xt_isa.specs.declared.density.Density.TheVariants as density
 use Rattle.xt_isa.specs.declared.density.NarrowName.TheVariants as NarrowName
 use Rattle.xt_isa.specs.declared.density.NarrowZeroName.TheVariants as NarrowZeroName
-use Rattle.xt_isa.specs.declared.density.NarrowRetName.TheVariants as NarrowRetName
+use Rattle.xt_isa.specs.declared.density.BareName.TheVariants as BareName
 use Rattle.xt_isa.specs.declared.boolean.Boolean.{Boolean}
 use Rattle.xt_isa.specs.declared.boolean.Boolean.TheVariants as boolean
 use Rattle.xt_isa.specs.declared.boolean.LogicName.TheVariants as LogicName
@@ -101,15 +101,15 @@ use Rattle.xt_rows.proofs.Bounds.{IsSize, One, Two, Four, addx_small, subx_small
 -- neither ENTRY, WSR, XSR nor WUR
 unfoldable pub is_calm : Insn → Bool
 is_calm (insn.Control (control.Entry s n)) = false
-is_calm (insn.System (system.Rsr SpecialName.Wsr t n)) = false
-is_calm (insn.System (system.Rsr SpecialName.Xsr t n)) = false
-is_calm (insn.System (system.Rur UserName.Wur t n)) = false
+is_calm (insn.System (system.Special SpecialName.Wsr t n)) = false
+is_calm (insn.System (system.Special SpecialName.Xsr t n)) = false
+is_calm (insn.System (system.User UserName.Wur t n)) = false
 is_calm _ = true
 
 pub calm_moves : (i : Insn) → is_calm i ≡ true → moved_to i ≡ None
 unfolding is_calm moved_to
-calm_moves (insn.System (system.Rsr SpecialName.Wsr t n)) c = absurd cc
-calm_moves (insn.System (system.Rsr SpecialName.Xsr t n)) c = absurd cc
+calm_moves (insn.System (system.Special SpecialName.Wsr t n)) c = absurd cc
+calm_moves (insn.System (system.Special SpecialName.Xsr t n)) c = absurd cc
 calm_moves _ c = refl
 
 pub calm_enters : (i : Insn) → is_calm i ≡ true → is_entry i ≡ false
@@ -119,23 +119,23 @@ calm_enters _ c = refl
 
 -- a load, and whether it extends the sign
 pub data IsLoad : Insn → Bool → Type 0 where
-  l8ui : {t s : ℕ} {offset : ℤ} → IsLoad (insn.Memory (memory.L8ui ByteName.L8ui t s offset)) false
-  l16ui : {t s : ℕ} {offset : ℤ} → IsLoad (insn.Memory (memory.L16ui HalfName.L16ui t s offset)) false
-  l16si : {t s : ℕ} {offset : ℤ} → IsLoad (insn.Memory (memory.L16ui HalfName.L16si t s offset)) true
-  l32i : {t s : ℕ} {offset : ℤ} → IsLoad (insn.Memory (memory.L32i WordName.L32i t s offset)) false
-  l32ai : {t s : ℕ} {offset : ℤ} → IsLoad (insn.Memory (memory.L32i WordName.L32ai t s offset)) false
-  l32e : {t s : ℕ} {offset : ℤ} → IsLoad (insn.Memory (memory.L32e WindowName.L32e t s offset)) false
+  l8ui : {t s : ℕ} {offset : ℤ} → IsLoad (insn.Memory (memory.Byte ByteName.L8ui t s offset)) false
+  l16ui : {t s : ℕ} {offset : ℤ} → IsLoad (insn.Memory (memory.Half HalfName.L16ui t s offset)) false
+  l16si : {t s : ℕ} {offset : ℤ} → IsLoad (insn.Memory (memory.Half HalfName.L16si t s offset)) true
+  l32i : {t s : ℕ} {offset : ℤ} → IsLoad (insn.Memory (memory.Word WordName.L32i t s offset)) false
+  l32ai : {t s : ℕ} {offset : ℤ} → IsLoad (insn.Memory (memory.Word WordName.L32ai t s offset)) false
+  l32e : {t s : ℕ} {offset : ℤ} → IsLoad (insn.Memory (memory.Window WindowName.L32e t s offset)) false
   l32r : {t : ℕ} {offset : ℤ} → IsLoad (insn.Memory (memory.L32r t offset)) false
-  l32i_n : {t s : ℕ} {offset : ℤ} → IsLoad (insn.Density (density.L32i NarrowName.L32i t s offset)) false
+  l32i_n : {t s : ℕ} {offset : ℤ} → IsLoad (insn.Density (density.Word NarrowName.L32i t s offset)) false
 
 -- a store, and its offset
 pub data IsStore : Insn → ℤ → Type 0 where
-  s8i : {t s : ℕ} {offset : ℤ} → IsStore (insn.Memory (memory.L8ui ByteName.S8i t s offset)) offset
-  s16i : {t s : ℕ} {offset : ℤ} → IsStore (insn.Memory (memory.L16ui HalfName.S16i t s offset)) offset
-  s32i : {t s : ℕ} {offset : ℤ} → IsStore (insn.Memory (memory.L32i WordName.S32i t s offset)) offset
-  s32ri : {t s : ℕ} {offset : ℤ} → IsStore (insn.Memory (memory.L32i WordName.S32ri t s offset)) offset
-  s32e : {t s : ℕ} {offset : ℤ} → IsStore (insn.Memory (memory.L32e WindowName.S32e t s offset)) offset
-  s32i_n : {t s : ℕ} {offset : ℤ} → IsStore (insn.Density (density.L32i NarrowName.S32i t s offset)) offset
+  s8i : {t s : ℕ} {offset : ℤ} → IsStore (insn.Memory (memory.Byte ByteName.S8i t s offset)) offset
+  s16i : {t s : ℕ} {offset : ℤ} → IsStore (insn.Memory (memory.Half HalfName.S16i t s offset)) offset
+  s32i : {t s : ℕ} {offset : ℤ} → IsStore (insn.Memory (memory.Word WordName.S32i t s offset)) offset
+  s32ri : {t s : ℕ} {offset : ℤ} → IsStore (insn.Memory (memory.Word WordName.S32ri t s offset)) offset
+  s32e : {t s : ℕ} {offset : ℤ} → IsStore (insn.Memory (memory.Window WindowName.S32e t s offset)) offset
+  s32i_n : {t s : ℕ} {offset : ℤ} → IsStore (insn.Density (density.Word NarrowName.S32i t s offset)) offset
 
 -- ---- registers and fields that are in their range
 pub below : (a : ℕ) → one_register a ≡ true → a < 16
@@ -214,19 +214,19 @@ module _ (code : ℕ → ℕ) (pc x y u v : ℕ) where
     SetsRegister : {i : Insn} (number value : ℕ) → is_calm i ≡ true → number < 177 → (AreGiven i x y u v → CanHold number value × (value < 2 ^ 32))
         → Form i (λ ps t. sets_special number value (no_change ps t))
     -- RSR, WSR and XSR of a register that is kept with the others
-    PutsSpecial : {r n : ℕ} → Form (insn.System (system.Rsr SpecialName.Rsr r n)) (λ ps t. puts r (value_read n u ps) (no_change ps t))
-    WritesSpecial : {r n : ℕ} → Form (insn.System (system.Rsr SpecialName.Wsr r n)) (λ ps t. Does (record (no_change ps t) { sets = written_by n x v; ps = ps_written n x ps }))
-    ExchangesSpecial : {r n : ℕ} → Form (insn.System (system.Rsr SpecialName.Xsr r n))
+    PutsSpecial : {r n : ℕ} → Form (insn.System (system.Special SpecialName.Rsr r n)) (λ ps t. puts r (value_read n u ps) (no_change ps t))
+    WritesSpecial : {r n : ℕ} → Form (insn.System (system.Special SpecialName.Wsr r n)) (λ ps t. Does (record (no_change ps t) { sets = written_by n x v; ps = ps_written n x ps }))
+    ExchangesSpecial : {r n : ℕ} → Form (insn.System (system.Special SpecialName.Xsr r n))
         (λ ps t. Does (record (no_change ps t) { write = write_to r (value_read n u ps); sets = written_by n x v; ps = ps_written n x ps }))
     -- RUR and WUR
-    PutsPointer : {r n : ℕ} → Form (insn.System (system.Rur UserName.Rur r n)) (λ ps t. puts r t (no_change ps t))
-    SetsPointer : {r n : ℕ} → Form (insn.System (system.Rur UserName.Wur r n)) (λ ps t. Does (record (no_change ps t) { threadptr = x }))
+    PutsPointer : {r n : ℕ} → Form (insn.System (system.User UserName.Rur r n)) (λ ps t. puts r t (no_change ps t))
+    SetsPointer : {r n : ℕ} → Form (insn.System (system.User UserName.Wur r n)) (λ ps t. Does (record (no_change ps t) { threadptr = x }))
     -- RFE, RFI, RSIL and WAITI
-    EndsException : Form (insn.System (system.Rfe ReturnName.Rfe)) (λ ps t. Does (record (no_change ps t) { ps = record ps { excm = false }; flow = Goes u }))
+    EndsException : Form (insn.System (system.ExceptionReturn ExceptionReturnName.Rfe)) (λ ps t. Does (record (no_change ps t) { ps = record ps { excm = false }; flow = Goes u }))
     EndsInterrupt : {level : ℤ} → Form (insn.System (system.Rfi level)) (λ ps t. Does (record (no_change ps t) { ps = ps_of v; flow = Goes u }))
-    SetsLevel : {r : ℕ} {level : ℤ} → Form (insn.System (system.Rsil LevelName.Rsil r level))
+    SetsLevel : {r : ℕ} {level : ℤ} → Form (insn.System (system.Level LevelName.Rsil r level))
         (λ ps t. Does (record (no_change ps t) { write = write_to r (ps_word ps); ps = record ps { intlevel = natural level } }))
-    Waits : {r : ℕ} {level : ℤ} → Form (insn.System (system.Rsil LevelName.Waiti r level)) (λ ps t. Does (record (no_change ps t) { ps = record ps { intlevel = natural level }; waits = true }))
+    Waits : {r : ℕ} {level : ℤ} → Form (insn.System (system.Level LevelName.Waiti r level)) (λ ps t. Does (record (no_change ps t) { ps = record ps { intlevel = natural level }; waits = true }))
     Nothing : {i : Insn} → is_calm i ≡ true → Form i (λ ps t. Does (no_change ps t))
     Refuses : {i : Insn} (cause : ℕ) (address : Option ℕ) → cause < 64 → IsProperAddress address → Form i (λ ps t. Raises cause address)
     Halts : {i : Insn} → Form i (λ ps t. Stops)
@@ -281,17 +281,17 @@ module _ (code : ℕ → ℕ) (pc x y u v : ℕ) where
   br_form value c w = SetsRegister 4 value c (omega arith) (λ g. let h : value < 2 ^ 16 = w g in (holds_any 4 value refl refl, omega arith))
 
   -- ---- special registers
-  rsr_form : (r n : ℕ) (w : Option WindowRegister) → window_register n ≡ w → Form (insn.System (system.Rsr SpecialName.Rsr r n)) (λ ps t. reads_special w r n u (no_change ps t))
+  rsr_form : (r n : ℕ) (w : Option WindowRegister) → window_register n ≡ w → Form (insn.System (system.Special SpecialName.Rsr r n)) (λ ps t. reads_special w r n u (no_change ps t))
   unfolding names_window_register
   rsr_form r n None h = PutsSpecial
   rsr_form r n (Some k) h = MovesWindow (Reads k r) (some_window_register n k h) (λ g. below r (and_parts _ _ g.range).0)
 
-  wsr_form : (r n : ℕ) (w : Option WindowRegister) → window_register n ≡ w → Form (insn.System (system.Rsr SpecialName.Wsr r n)) (λ ps t. writes_special w n x v (no_change ps t))
+  wsr_form : (r n : ℕ) (w : Option WindowRegister) → window_register n ≡ w → Form (insn.System (system.Special SpecialName.Wsr r n)) (λ ps t. writes_special w n x v (no_change ps t))
   unfolding names_window_register
   wsr_form r n None h = WritesSpecial
   wsr_form r n (Some k) h = MovesWindow (Sets k x) (some_window_register n k h) (λ g. g.x_word)
 
-  xsr_form : (r n : ℕ) (w : Option WindowRegister) → window_register n ≡ w → Form (insn.System (system.Rsr SpecialName.Xsr r n)) (λ ps t. exchanges_special w r n x u v (no_change ps t))
+  xsr_form : (r n : ℕ) (w : Option WindowRegister) → window_register n ≡ w → Form (insn.System (system.Special SpecialName.Xsr r n)) (λ ps t. exchanges_special w r n x u v (no_change ps t))
   unfolding names_window_register
   xsr_form r n None h = ExchangesSpecial
   xsr_form r n (Some k) h = MovesWindow (Exchanges k r x) (some_window_register n k h) (λ g. (below r (and_parts _ _ g.range).0, g.x_word))
@@ -299,72 +299,72 @@ module _ (code : ℕ → ℕ) (pc x y u v : ℕ) where
   -- ---- the tables of rows
   three_form : (i : Three) → Form (insn.Three i) (λ ps t. three_outcome i x y u (no_change ps t))
   unfolding three_outcome highest_register is_calm
-  three_form (three.And AndName.And r s t) = Puts r (bit_and x y) refl (omega arith) (λ g. and_small x y g.x_word)
-  three_form (three.And AndName.Or r s t) = Puts r (bit_or x y) refl (omega arith) (λ g. or_small x y g.x_word g.y_word)
-  three_form (three.And AndName.Xor r s t) = Puts r (bit_xor x y) refl (omega arith) (λ g. xor_small x y g.x_word g.y_word)
-  three_form (three.Add AddName.Add r s t) = Puts r (addx x y 0) refl (omega arith) (λ g. addx_small x y 0)
-  three_form (three.Add AddName.Addx2 r s t) = Puts r (addx x y 1) refl (omega arith) (λ g. addx_small x y 1)
-  three_form (three.Add AddName.Addx4 r s t) = Puts r (addx x y 2) refl (omega arith) (λ g. addx_small x y 2)
-  three_form (three.Add AddName.Addx8 r s t) = Puts r (addx x y 3) refl (omega arith) (λ g. addx_small x y 3)
-  three_form (three.Sub SubName.Sub r s t) = Puts r (subx x y 0) refl (omega arith) (λ g. subx_small x y 0)
-  three_form (three.Sub SubName.Subx2 r s t) = Puts r (subx x y 1) refl (omega arith) (λ g. subx_small x y 1)
-  three_form (three.Sub SubName.Subx4 r s t) = Puts r (subx x y 2) refl (omega arith) (λ g. subx_small x y 2)
-  three_form (three.Sub SubName.Subx8 r s t) = Puts r (subx x y 3) refl (omega arith) (λ g. subx_small x y 3)
+  three_form (three.Bitwise BitwiseName.And r s t) = Puts r (bit_and x y) refl (omega arith) (λ g. and_small x y g.x_word)
+  three_form (three.Bitwise BitwiseName.Or r s t) = Puts r (bit_or x y) refl (omega arith) (λ g. or_small x y g.x_word g.y_word)
+  three_form (three.Bitwise BitwiseName.Xor r s t) = Puts r (bit_xor x y) refl (omega arith) (λ g. xor_small x y g.x_word g.y_word)
+  three_form (three.Sum SumName.Add r s t) = Puts r (addx x y 0) refl (omega arith) (λ g. addx_small x y 0)
+  three_form (three.Sum SumName.Addx2 r s t) = Puts r (addx x y 1) refl (omega arith) (λ g. addx_small x y 1)
+  three_form (three.Sum SumName.Addx4 r s t) = Puts r (addx x y 2) refl (omega arith) (λ g. addx_small x y 2)
+  three_form (three.Sum SumName.Addx8 r s t) = Puts r (addx x y 3) refl (omega arith) (λ g. addx_small x y 3)
+  three_form (three.Difference DifferenceName.Sub r s t) = Puts r (subx x y 0) refl (omega arith) (λ g. subx_small x y 0)
+  three_form (three.Difference DifferenceName.Subx2 r s t) = Puts r (subx x y 1) refl (omega arith) (λ g. subx_small x y 1)
+  three_form (three.Difference DifferenceName.Subx4 r s t) = Puts r (subx x y 2) refl (omega arith) (λ g. subx_small x y 2)
+  three_form (three.Difference DifferenceName.Subx8 r s t) = Puts r (subx x y 3) refl (omega arith) (λ g. subx_small x y 3)
   three_form (three.Src r s t) = Puts r (src x y u) refl (omega arith) (λ g. src_small x y u)
-  three_form (three.Mul16u Mul16Name.Mul16u r s t) = Puts r (mul16u x y) refl (omega arith) (λ g. mul16u_small x y)
-  three_form (three.Mul16u Mul16Name.Mul16s r s t) = Puts r (mul16s x y) refl (omega arith) (λ g. mul16s_small x y)
+  three_form (three.Mul16 Mul16Name.Mul16u r s t) = Puts r (mul16u x y) refl (omega arith) (λ g. mul16u_small x y)
+  three_form (three.Mul16 Mul16Name.Mul16s r s t) = Puts r (mul16s x y) refl (omega arith) (λ g. mul16s_small x y)
   three_form (three.Mull r s t) = Puts r (mull x y) refl (omega arith) (λ g. mull_small x y)
-  three_form (three.Muluh MulHighName.Muluh r s t) = Puts r (muluh x y) refl (omega arith) (λ g. muluh_small x y g.x_word g.y_word)
-  three_form (three.Muluh MulHighName.Mulsh r s t) = Puts r (mulsh x y) refl (omega arith) (λ g. mulsh_small x y g.x_word g.y_word)
-  three_form (three.Quou DivideName.Quou r s t) = divides_form r (quou x y) refl (omega arith) (λ g. quou_small x y g.x_word)
-  three_form (three.Quou DivideName.Quos r s t) = divides_form r (quos x y) refl (omega arith) (λ g. quos_small x y g.x_word)
-  three_form (three.Quou DivideName.Remu r s t) = divides_form r (remu x y) refl (omega arith) (λ g. remu_small x y g.x_word)
-  three_form (three.Quou DivideName.Rems r s t) = divides_form r (rems x y) refl (omega arith) (λ g. rems_small x y g.x_word)
-  three_form (three.Min MinName.Min r s t) = Puts r (signed_min x y) refl (omega arith) (λ g. signed_min_small x y g.x_word g.y_word)
-  three_form (three.Min MinName.Max r s t) = Puts r (signed_max x y) refl (omega arith) (λ g. signed_max_small x y g.x_word g.y_word)
-  three_form (three.Min MinName.Minu r s t) = Puts r (min x y) refl (omega arith) (λ g. min_small x y g.x_word g.y_word)
-  three_form (three.Min MinName.Maxu r s t) = Puts r (max x y) refl (omega arith) (λ g. max_small x y g.x_word g.y_word)
-  three_form (three.Moveqz MoveName.Moveqz r s t) = moves_form (holds cond_.Eq y 0) r refl (omega arith)
-  three_form (three.Moveqz MoveName.Movnez r s t) = moves_form (holds cond_.Ne y 0) r refl (omega arith)
-  three_form (three.Moveqz MoveName.Movltz r s t) = moves_form (holds cond_.Lt y 0) r refl (omega arith)
-  three_form (three.Moveqz MoveName.Movgez r s t) = moves_form (holds cond_.Ge y 0) r refl (omega arith)
+  three_form (three.MulHigh MulHighName.Muluh r s t) = Puts r (muluh x y) refl (omega arith) (λ g. muluh_small x y g.x_word g.y_word)
+  three_form (three.MulHigh MulHighName.Mulsh r s t) = Puts r (mulsh x y) refl (omega arith) (λ g. mulsh_small x y g.x_word g.y_word)
+  three_form (three.Divide DivideName.Quou r s t) = divides_form r (quou x y) refl (omega arith) (λ g. quou_small x y g.x_word)
+  three_form (three.Divide DivideName.Quos r s t) = divides_form r (quos x y) refl (omega arith) (λ g. quos_small x y g.x_word)
+  three_form (three.Divide DivideName.Remu r s t) = divides_form r (remu x y) refl (omega arith) (λ g. remu_small x y g.x_word)
+  three_form (three.Divide DivideName.Rems r s t) = divides_form r (rems x y) refl (omega arith) (λ g. rems_small x y g.x_word)
+  three_form (three.MinMax MinMaxName.Min r s t) = Puts r (signed_min x y) refl (omega arith) (λ g. signed_min_small x y g.x_word g.y_word)
+  three_form (three.MinMax MinMaxName.Max r s t) = Puts r (signed_max x y) refl (omega arith) (λ g. signed_max_small x y g.x_word g.y_word)
+  three_form (three.MinMax MinMaxName.Minu r s t) = Puts r (min x y) refl (omega arith) (λ g. min_small x y g.x_word g.y_word)
+  three_form (three.MinMax MinMaxName.Maxu r s t) = Puts r (max x y) refl (omega arith) (λ g. max_small x y g.x_word g.y_word)
+  three_form (three.Move MoveName.Moveqz r s t) = moves_form (holds cond_.Eq y 0) r refl (omega arith)
+  three_form (three.Move MoveName.Movnez r s t) = moves_form (holds cond_.Ne y 0) r refl (omega arith)
+  three_form (three.Move MoveName.Movltz r s t) = moves_form (holds cond_.Lt y 0) r refl (omega arith)
+  three_form (three.Move MoveName.Movgez r s t) = moves_form (holds cond_.Ge y 0) r refl (omega arith)
 
   shift_form : (i : Shift) → Form (insn.Shift i) (λ ps t. shift_outcome i x u (no_change ps t))
   unfolding shift_outcome highest_register is_calm is_movsp
-  shift_form (shift.Neg NegName.Neg r t) = Puts r (neg x) refl (omega arith) (λ g. neg_small x)
-  shift_form (shift.Neg NegName.Abs r t) = Puts r (abs x) refl (omega arith) (λ g. abs_small x g.x_word)
-  shift_form (shift.Srl SrlName.Srl r t) = Puts r (srl x u) refl (omega arith) (λ g. srl_small x u)
-  shift_form (shift.Srl SrlName.Sra r t) = Puts r (sra x u) refl (omega arith) (λ g. sra_small x u g.x_word)
+  shift_form (shift.Sign SignName.Neg r t) = Puts r (neg x) refl (omega arith) (λ g. neg_small x)
+  shift_form (shift.Sign SignName.Abs r t) = Puts r (abs x) refl (omega arith) (λ g. abs_small x g.x_word)
+  shift_form (shift.ShiftRight ShiftRightName.Srl r t) = Puts r (srl x u) refl (omega arith) (λ g. srl_small x u)
+  shift_form (shift.ShiftRight ShiftRightName.Sra r t) = Puts r (sra x u) refl (omega arith) (λ g. sra_small x u g.x_word)
   shift_form (shift.Sll r s) = Puts r (sll x u) refl (omega arith) (λ g. sll_small x u)
   shift_form (shift.Slli r s n) = Puts r (slli x (natural n)) refl (omega arith) (λ g. slli_small x (natural n))
   shift_form (shift.Srai r t n) = Puts r (srai x (natural n)) refl (omega arith) (λ g. srai_small x (natural n) g.x_word)
   shift_form (shift.Srli r t n) = Puts r (srli x (natural n)) refl (omega arith) (λ g. srli_small x (natural n) g.x_word)
   shift_form (shift.Extui r t n width) = Puts r (extui x (natural n) (natural width)) refl (omega arith) (λ g. extui_small x (natural n) (natural width) g.x_word)
-  shift_form (shift.Sext SextName.Sext r s b) = Puts r (sext x (natural b)) refl (omega arith) (λ g. sext_small x (natural b) (at_most 7 22 b (and_parts _ _ g.range).1))
-  shift_form (shift.Sext SextName.Clamps r s b) = Puts r (clamps x (natural b)) refl (omega arith) (λ g. clamps_small x (natural b) g.x_word)
-  shift_form (shift.Nsa NsaName.Nsa t s) = Puts t (nsa x) refl (omega arith) (λ g. nsa_small x)
-  shift_form (shift.Nsa NsaName.Nsau t s) = Puts t (nsau x) refl (omega arith) (λ g. nsau_small x)
+  shift_form (shift.Signed SignedName.Sext r s b) = Puts r (sext x (natural b)) refl (omega arith) (λ g. sext_small x (natural b) (at_most 7 22 b (and_parts _ _ g.range).1))
+  shift_form (shift.Signed SignedName.Clamps r s b) = Puts r (clamps x (natural b)) refl (omega arith) (λ g. clamps_small x (natural b) g.x_word)
+  shift_form (shift.Normalize NormalizeName.Nsa t s) = Puts t (nsa x) refl (omega arith) (λ g. nsa_small x)
+  shift_form (shift.Normalize NormalizeName.Nsau t s) = Puts t (nsau x) refl (omega arith) (λ g. nsau_small x)
   shift_form (shift.Movsp t s) = MovesWindow (MovesStack t x) refl (λ g. (first t s g.range, g.x_word))
-  shift_form (shift.Ssr SsrName.Ssr s) = sar_form (ssr x) refl (λ g. ssr_small x)
-  shift_form (shift.Ssr SsrName.Ssl s) = sar_form (ssl x) refl (λ g. ssl_small x)
-  shift_form (shift.Ssa8l Ssa8Name.Ssa8l s) = sar_form (ssa8l x) refl (λ g. ssa8l_small x)
-  shift_form (shift.Ssa8l Ssa8Name.Ssa8b s) = sar_form (ssa8b x) refl (λ g. ssa8b_small x)
+  shift_form (shift.Amount AmountName.Ssr s) = sar_form (ssr x) refl (λ g. ssr_small x)
+  shift_form (shift.Amount AmountName.Ssl s) = sar_form (ssl x) refl (λ g. ssl_small x)
+  shift_form (shift.ByteAmount ByteAmountName.Ssa8l s) = sar_form (ssa8l x) refl (λ g. ssa8l_small x)
+  shift_form (shift.ByteAmount ByteAmountName.Ssa8b s) = sar_form (ssa8b x) refl (λ g. ssa8b_small x)
   shift_form (shift.Ssai n) = sar_form (natural n) refl (λ g. let h = at_most 0 31 n g.range in omega arith)
 
   memory_form : (i : Memory) → Form (insn.Memory i) (λ ps t. memory_outcome code i pc x y u (no_change ps t))
   unfolding memory_outcome highest_register is_calm
-  memory_form (memory.L8ui ByteName.L8ui t s offset) = loads_form 1 false t (plus x offset) l8ui One (plus_small x offset) refl (omega arith)
-  memory_form (memory.L8ui ByteName.S8i t s offset) = stores_form 1 offset s8i refl
-  memory_form (memory.L16ui HalfName.L16ui t s offset) = loads_form 2 false t (plus x offset) l16ui Two (plus_small x offset) refl (omega arith)
-  memory_form (memory.L16ui HalfName.L16si t s offset) = loads_form 2 true t (plus x offset) l16si Two (plus_small x offset) refl (omega arith)
-  memory_form (memory.L16ui HalfName.S16i t s offset) = stores_form 2 offset s16i refl
-  memory_form (memory.L32i WordName.L32i t s offset) = loads_form 4 false t (plus x offset) l32i Four (plus_small x offset) refl (omega arith)
-  memory_form (memory.L32i WordName.S32i t s offset) = stores_form 4 offset s32i refl
-  memory_form (memory.L32i WordName.L32ai t s offset) = loads_form 4 false t (plus x offset) l32ai Four (plus_small x offset) refl (omega arith)
-  memory_form (memory.L32i WordName.S32ri t s offset) = stores_form 4 offset s32ri refl
+  memory_form (memory.Byte ByteName.L8ui t s offset) = loads_form 1 false t (plus x offset) l8ui One (plus_small x offset) refl (omega arith)
+  memory_form (memory.Byte ByteName.S8i t s offset) = stores_form 1 offset s8i refl
+  memory_form (memory.Half HalfName.L16ui t s offset) = loads_form 2 false t (plus x offset) l16ui Two (plus_small x offset) refl (omega arith)
+  memory_form (memory.Half HalfName.L16si t s offset) = loads_form 2 true t (plus x offset) l16si Two (plus_small x offset) refl (omega arith)
+  memory_form (memory.Half HalfName.S16i t s offset) = stores_form 2 offset s16i refl
+  memory_form (memory.Word WordName.L32i t s offset) = loads_form 4 false t (plus x offset) l32i Four (plus_small x offset) refl (omega arith)
+  memory_form (memory.Word WordName.S32i t s offset) = stores_form 4 offset s32i refl
+  memory_form (memory.Word WordName.L32ai t s offset) = loads_form 4 false t (plus x offset) l32ai Four (plus_small x offset) refl (omega arith)
+  memory_form (memory.Word WordName.S32ri t s offset) = stores_form 4 offset s32ri refl
   memory_form (memory.S32c1i t s offset) = swaps_form t s offset
-  memory_form (memory.L32e WindowName.L32e t s offset) = loads_form 4 false t (plus x offset) l32e Four (plus_small x offset) refl (omega arith)
-  memory_form (memory.L32e WindowName.S32e t s offset) = stores_form 4 offset s32e refl
+  memory_form (memory.Window WindowName.L32e t s offset) = loads_form 4 false t (plus x offset) l32e Four (plus_small x offset) refl (omega arith)
+  memory_form (memory.Window WindowName.S32e t s offset) = stores_form 4 offset s32e refl
   memory_form (memory.L32r t offset) = loads_form 4 false t (literal_address pc offset) l32r Four (plus_small _ offset) refl (omega arith)
   memory_form (memory.Movi t n) = Puts t (plus 0 n) refl (omega arith) (λ g. plus_small 0 n)
   memory_form (memory.Addi t s n) = Puts t (plus x n) refl (omega arith) (λ g. plus_small x n)
@@ -373,35 +373,35 @@ module _ (code : ℕ → ℕ) (pc x y u v : ℕ) where
   control_form : (i : Control) → Form (insn.Control i) (λ ps t. control_outcome i pc x y (no_change ps t))
   unfolding control_outcome highest_register is_calm
   control_form (control.J offset) = Jumps (branch_target pc offset) refl (λ g. plus_small _ offset)
-  control_form (control.Call0 name offset) = calls_form (call_size name) (call_target pc offset) (call_small name) refl (omega arith) (λ g. plus_small _ offset)
-  control_form (control.Ret RetName.Ret) = Jumps x refl (λ g. g.x_word)
-  control_form (control.Ret RetName.Retw) = MovesWindow (Returns x) (inl refl) (λ g. g.x_word)
+  control_form (control.Call name offset) = calls_form (call_size name) (call_target pc offset) (call_small name) refl (omega arith) (λ g. plus_small _ offset)
+  control_form (control.Return ReturnName.Ret) = Jumps x refl (λ g. g.x_word)
+  control_form (control.Return ReturnName.Retw) = MovesWindow (Returns x) (inl refl) (λ g. g.x_word)
   control_form (control.Jx s) = Jumps x refl (λ g. g.x_word)
-  control_form (control.Callx0 name s) = calls_form (callx_size name) x (callx_small name) refl (omega arith) (λ g. g.x_word)
-  control_form (control.Beqz ZeroName.Beqz s offset) = branches_form (holds cond_.Eq x 0) offset refl
-  control_form (control.Beqz ZeroName.Bnez s offset) = branches_form (holds cond_.Ne x 0) offset refl
-  control_form (control.Beqz ZeroName.Bltz s offset) = branches_form (holds cond_.Lt x 0) offset refl
-  control_form (control.Beqz ZeroName.Bgez s offset) = branches_form (holds cond_.Ge x 0) offset refl
-  control_form (control.Beqi ConstName.Beqi s c offset) = branches_form (holds cond_.Eq x (plus 0 c)) offset refl
-  control_form (control.Beqi ConstName.Bnei s c offset) = branches_form (holds cond_.Ne x (plus 0 c)) offset refl
-  control_form (control.Beqi ConstName.Blti s c offset) = branches_form (holds cond_.Lt x (plus 0 c)) offset refl
-  control_form (control.Beqi ConstName.Bgei s c offset) = branches_form (holds cond_.Ge x (plus 0 c)) offset refl
-  control_form (control.Bltui ConstuName.Bltui s c offset) = branches_form (holds cond_.Ltu x (plus 0 c)) offset refl
-  control_form (control.Bltui ConstuName.Bgeui s c offset) = branches_form (holds cond_.Geu x (plus 0 c)) offset refl
-  control_form (control.Bnone BranchName.Bnone s t offset) = branches_form (holds cond_.NoBits x y) offset refl
-  control_form (control.Bnone BranchName.Beq s t offset) = branches_form (holds cond_.Eq x y) offset refl
-  control_form (control.Bnone BranchName.Blt s t offset) = branches_form (holds cond_.Lt x y) offset refl
-  control_form (control.Bnone BranchName.Bltu s t offset) = branches_form (holds cond_.Ltu x y) offset refl
-  control_form (control.Bnone BranchName.Ball s t offset) = branches_form (holds cond_.AllBits x y) offset refl
-  control_form (control.Bnone BranchName.Bbc s t offset) = branches_form (holds cond_.BitClear x y) offset refl
-  control_form (control.Bany OppositeName.Bany s t offset) = branches_form (holds cond_.AnyBits x y) offset refl
-  control_form (control.Bany OppositeName.Bne s t offset) = branches_form (holds cond_.Ne x y) offset refl
-  control_form (control.Bany OppositeName.Bge s t offset) = branches_form (holds cond_.Ge x y) offset refl
-  control_form (control.Bany OppositeName.Bgeu s t offset) = branches_form (holds cond_.Geu x y) offset refl
-  control_form (control.Bany OppositeName.Bnall s t offset) = branches_form (holds cond_.NotAllBits x y) offset refl
-  control_form (control.Bany OppositeName.Bbs s t offset) = branches_form (holds cond_.BitSet x y) offset refl
-  control_form (control.Bbci BitName.Bbci s b offset) = branches_form (holds cond_.BitClear x (natural b)) offset refl
-  control_form (control.Bbci BitName.Bbsi s b offset) = branches_form (holds cond_.BitSet x (natural b)) offset refl
+  control_form (control.Callx name s) = calls_form (callx_size name) x (callx_small name) refl (omega arith) (λ g. g.x_word)
+  control_form (control.BranchZero ZeroName.Beqz s offset) = branches_form (holds cond_.Eq x 0) offset refl
+  control_form (control.BranchZero ZeroName.Bnez s offset) = branches_form (holds cond_.Ne x 0) offset refl
+  control_form (control.BranchZero ZeroName.Bltz s offset) = branches_form (holds cond_.Lt x 0) offset refl
+  control_form (control.BranchZero ZeroName.Bgez s offset) = branches_form (holds cond_.Ge x 0) offset refl
+  control_form (control.BranchConst ConstName.Beqi s c offset) = branches_form (holds cond_.Eq x (plus 0 c)) offset refl
+  control_form (control.BranchConst ConstName.Bnei s c offset) = branches_form (holds cond_.Ne x (plus 0 c)) offset refl
+  control_form (control.BranchConst ConstName.Blti s c offset) = branches_form (holds cond_.Lt x (plus 0 c)) offset refl
+  control_form (control.BranchConst ConstName.Bgei s c offset) = branches_form (holds cond_.Ge x (plus 0 c)) offset refl
+  control_form (control.BranchConstu ConstuName.Bltui s c offset) = branches_form (holds cond_.Ltu x (plus 0 c)) offset refl
+  control_form (control.BranchConstu ConstuName.Bgeui s c offset) = branches_form (holds cond_.Geu x (plus 0 c)) offset refl
+  control_form (control.Branch BranchName.Bnone s t offset) = branches_form (holds cond_.NoBits x y) offset refl
+  control_form (control.Branch BranchName.Beq s t offset) = branches_form (holds cond_.Eq x y) offset refl
+  control_form (control.Branch BranchName.Blt s t offset) = branches_form (holds cond_.Lt x y) offset refl
+  control_form (control.Branch BranchName.Bltu s t offset) = branches_form (holds cond_.Ltu x y) offset refl
+  control_form (control.Branch BranchName.Ball s t offset) = branches_form (holds cond_.AllBits x y) offset refl
+  control_form (control.Branch BranchName.Bbc s t offset) = branches_form (holds cond_.BitClear x y) offset refl
+  control_form (control.BranchNot OppositeName.Bany s t offset) = branches_form (holds cond_.AnyBits x y) offset refl
+  control_form (control.BranchNot OppositeName.Bne s t offset) = branches_form (holds cond_.Ne x y) offset refl
+  control_form (control.BranchNot OppositeName.Bge s t offset) = branches_form (holds cond_.Ge x y) offset refl
+  control_form (control.BranchNot OppositeName.Bgeu s t offset) = branches_form (holds cond_.Geu x y) offset refl
+  control_form (control.BranchNot OppositeName.Bnall s t offset) = branches_form (holds cond_.NotAllBits x y) offset refl
+  control_form (control.BranchNot OppositeName.Bbs s t offset) = branches_form (holds cond_.BitSet x y) offset refl
+  control_form (control.BranchBit BitName.Bbci s b offset) = branches_form (holds cond_.BitClear x (natural b)) offset refl
+  control_form (control.BranchBit BitName.Bbsi s b offset) = branches_form (holds cond_.BitSet x (natural b)) offset refl
   control_form (control.Entry s n) = MovesWindow (Enters s (minus x (natural n))) (n, refl) (λ g. (below s (and_parts _ _ g.range).0, minus_small x (natural n)))
   control_form (control.Loop LoopName.Loop s offset) = Loops false offset refl
   control_form (control.Loop LoopName.Loopnez s offset) = Loops (holds cond_.Eq x 0) offset refl
@@ -409,62 +409,62 @@ module _ (code : ℕ → ℕ) (pc x y u v : ℕ) where
 
   system_form : (i : System) → Form (insn.System i) (λ ps t. system_outcome i x u v (no_change ps t))
   unfolding system_outcome is_calm is_windowing
-  system_form (system.Ill SyncName.Ill) = Refuses 0 None (omega arith) tt
-  system_form (system.Ill SyncName.Isync) = Nothing refl
-  system_form (system.Ill SyncName.Rsync) = Nothing refl
-  system_form (system.Ill SyncName.Esync) = Nothing refl
-  system_form (system.Ill SyncName.Dsync) = Nothing refl
-  system_form (system.Excw WaitName.Excw) = Nothing refl
-  system_form (system.Excw WaitName.Memw) = Nothing refl
-  system_form (system.Excw WaitName.Extw) = Nothing refl
-  system_form (system.Excw WaitName.Nop) = Nothing refl
-  system_form (system.Rfe ReturnName.Rfe) = EndsException
-  system_form (system.Rfe ReturnName.Rfde) = Jumps u refl (λ g. g.u_word)
-  system_form (system.Rfe ReturnName.Rfwo) = MovesWindow (EndsOverflow u) refl (λ g. g.u_word)
-  system_form (system.Rfe ReturnName.Rfwu) = MovesWindow (EndsUnderflow u) refl (λ g. g.u_word)
+  system_form (system.Sync SyncName.Ill) = Refuses 0 None (omega arith) tt
+  system_form (system.Sync SyncName.Isync) = Nothing refl
+  system_form (system.Sync SyncName.Rsync) = Nothing refl
+  system_form (system.Sync SyncName.Esync) = Nothing refl
+  system_form (system.Sync SyncName.Dsync) = Nothing refl
+  system_form (system.Wait WaitName.Excw) = Nothing refl
+  system_form (system.Wait WaitName.Memw) = Nothing refl
+  system_form (system.Wait WaitName.Extw) = Nothing refl
+  system_form (system.Wait WaitName.Nop) = Nothing refl
+  system_form (system.ExceptionReturn ExceptionReturnName.Rfe) = EndsException
+  system_form (system.ExceptionReturn ExceptionReturnName.Rfde) = Jumps u refl (λ g. g.u_word)
+  system_form (system.ExceptionReturn ExceptionReturnName.Rfwo) = MovesWindow (EndsOverflow u) refl (λ g. g.u_word)
+  system_form (system.ExceptionReturn ExceptionReturnName.Rfwu) = MovesWindow (EndsUnderflow u) refl (λ g. g.u_word)
   system_form (system.Rfi level) = EndsInterrupt
-  system_form (system.Break BreakName.Break level number) = Halts
-  system_form (system.Break BreakName.Syscall level number) = Refuses 1 None (omega arith) tt
-  system_form (system.Rsil LevelName.Rsil t level) = SetsLevel
-  system_form (system.Rsil LevelName.Waiti t level) = Waits
+  system_form (system.Trap TrapName.Break level number) = Halts
+  system_form (system.Trap TrapName.Syscall level number) = Refuses 1 None (omega arith) tt
+  system_form (system.Level LevelName.Rsil t level) = SetsLevel
+  system_form (system.Level LevelName.Waiti t level) = Waits
   system_form (system.Rotw n) = MovesWindow (Rotates n) refl (λ g. g.range)
-  system_form (system.Rsr SpecialName.Rsr t n) = rsr_form t n (window_register n) refl
-  system_form (system.Rsr SpecialName.Wsr t n) = wsr_form t n (window_register n) refl
-  system_form (system.Rsr SpecialName.Xsr t n) = xsr_form t n (window_register n) refl
-  system_form (system.Rur UserName.Rur r n) = PutsPointer
-  system_form (system.Rur UserName.Wur t n) = SetsPointer
+  system_form (system.Special SpecialName.Rsr t n) = rsr_form t n (window_register n) refl
+  system_form (system.Special SpecialName.Wsr t n) = wsr_form t n (window_register n) refl
+  system_form (system.Special SpecialName.Xsr t n) = xsr_form t n (window_register n) refl
+  system_form (system.User UserName.Rur r n) = PutsPointer
+  system_form (system.User UserName.Wur t n) = SetsPointer
 
   density_form : (i : Density) → Form (insn.Density i) (λ ps t. density_outcome code i pc x y (no_change ps t))
   unfolding density_outcome highest_register is_calm
-  density_form (density.L32i NarrowName.L32i t s offset) = loads_form 4 false t (plus x offset) l32i_n Four (plus_small x offset) refl (omega arith)
-  density_form (density.L32i NarrowName.S32i t s offset) = stores_form 4 offset s32i_n refl
+  density_form (density.Word NarrowName.L32i t s offset) = loads_form 4 false t (plus x offset) l32i_n Four (plus_small x offset) refl (omega arith)
+  density_form (density.Word NarrowName.S32i t s offset) = stores_form 4 offset s32i_n refl
   density_form (density.Add r s t) = Puts r (addx x y 0) refl (omega arith) (λ g. addx_small x y 0)
   density_form (density.Addi r s n) = Puts r (plus x n) refl (omega arith) (λ g. plus_small x n)
   density_form (density.Movi s n) = Puts s (plus 0 n) refl (omega arith) (λ g. plus_small 0 n)
-  density_form (density.Beqz NarrowZeroName.Beqz s offset) = branches_form (holds cond_.Eq x 0) offset refl
-  density_form (density.Beqz NarrowZeroName.Bnez s offset) = branches_form (holds cond_.Ne x 0) offset refl
+  density_form (density.BranchZero NarrowZeroName.Beqz s offset) = branches_form (holds cond_.Eq x 0) offset refl
+  density_form (density.BranchZero NarrowZeroName.Bnez s offset) = branches_form (holds cond_.Ne x 0) offset refl
   density_form (density.Mov t s) = Puts t x refl (omega arith) (λ g. g.x_word)
-  density_form (density.Ret NarrowRetName.Ret) = Jumps x refl (λ g. g.x_word)
-  density_form (density.Ret NarrowRetName.Retw) = MovesWindow (Returns x) (inr refl) (λ g. g.x_word)
-  density_form (density.Ret NarrowRetName.Nop) = Nothing refl
-  density_form (density.Ret NarrowRetName.Ill) = Refuses 0 None (omega arith) tt
+  density_form (density.Bare BareName.Ret) = Jumps x refl (λ g. g.x_word)
+  density_form (density.Bare BareName.Retw) = MovesWindow (Returns x) (inr refl) (λ g. g.x_word)
+  density_form (density.Bare BareName.Nop) = Nothing refl
+  density_form (density.Bare BareName.Ill) = Refuses 0 None (omega arith) tt
   density_form (density.Break n) = Halts
 
   boolean_form : (i : Boolean) → Form (insn.Boolean i) (λ ps t. boolean_outcome i pc x u (no_change ps t))
   unfolding boolean_outcome highest_register is_calm
-  boolean_form (boolean.Andb LogicName.Andb r s t) = br_form (logic op.And (booleans u) r s t) refl (λ g. logic_small _ (booleans u) r s t (omega arith) (first_of_3 r s t g.range))
-  boolean_form (boolean.Andb LogicName.Andbc r s t) = br_form (logic op.AndNot (booleans u) r s t) refl (λ g. logic_small _ (booleans u) r s t (omega arith) (first_of_3 r s t g.range))
-  boolean_form (boolean.Andb LogicName.Orb r s t) = br_form (logic op.Or (booleans u) r s t) refl (λ g. logic_small _ (booleans u) r s t (omega arith) (first_of_3 r s t g.range))
-  boolean_form (boolean.Andb LogicName.Orbc r s t) = br_form (logic op.OrNot (booleans u) r s t) refl (λ g. logic_small _ (booleans u) r s t (omega arith) (first_of_3 r s t g.range))
-  boolean_form (boolean.Andb LogicName.Xorb r s t) = br_form (logic op.Xor (booleans u) r s t) refl (λ g. logic_small _ (booleans u) r s t (omega arith) (first_of_3 r s t g.range))
-  boolean_form (boolean.Any4 FourName.Any4 t s) = br_form (group false 4 (booleans u) t s) refl (λ g. group_small false 4 (booleans u) t s (omega arith) (first t s (and_parts _ _ g.range).0))
-  boolean_form (boolean.Any4 FourName.All4 t s) = br_form (group true 4 (booleans u) t s) refl (λ g. group_small true 4 (booleans u) t s (omega arith) (first t s (and_parts _ _ g.range).0))
-  boolean_form (boolean.Any8 EightName.Any8 t s) = br_form (group false 8 (booleans u) t s) refl (λ g. group_small false 8 (booleans u) t s (omega arith) (first t s (and_parts _ _ g.range).0))
-  boolean_form (boolean.Any8 EightName.All8 t s) = br_form (group true 8 (booleans u) t s) refl (λ g. group_small true 8 (booleans u) t s (omega arith) (first t s (and_parts _ _ g.range).0))
-  boolean_form (boolean.Bf TestName.Bf s offset) = branches_form (holds cond_.BitClear u s) offset refl
-  boolean_form (boolean.Bf TestName.Bt s offset) = branches_form (holds cond_.BitSet u s) offset refl
-  boolean_form (boolean.Movf ChoiceName.Movf r s t) = moves_form (holds cond_.BitClear u t) r refl (omega arith)
-  boolean_form (boolean.Movf ChoiceName.Movt r s t) = moves_form (holds cond_.BitSet u t) r refl (omega arith)
+  boolean_form (boolean.Logic LogicName.Andb r s t) = br_form (logic op.And (booleans u) r s t) refl (λ g. logic_small _ (booleans u) r s t (omega arith) (first_of_3 r s t g.range))
+  boolean_form (boolean.Logic LogicName.Andbc r s t) = br_form (logic op.AndNot (booleans u) r s t) refl (λ g. logic_small _ (booleans u) r s t (omega arith) (first_of_3 r s t g.range))
+  boolean_form (boolean.Logic LogicName.Orb r s t) = br_form (logic op.Or (booleans u) r s t) refl (λ g. logic_small _ (booleans u) r s t (omega arith) (first_of_3 r s t g.range))
+  boolean_form (boolean.Logic LogicName.Orbc r s t) = br_form (logic op.OrNot (booleans u) r s t) refl (λ g. logic_small _ (booleans u) r s t (omega arith) (first_of_3 r s t g.range))
+  boolean_form (boolean.Logic LogicName.Xorb r s t) = br_form (logic op.Xor (booleans u) r s t) refl (λ g. logic_small _ (booleans u) r s t (omega arith) (first_of_3 r s t g.range))
+  boolean_form (boolean.Four FourName.Any4 t s) = br_form (group false 4 (booleans u) t s) refl (λ g. group_small false 4 (booleans u) t s (omega arith) (first t s (and_parts _ _ g.range).0))
+  boolean_form (boolean.Four FourName.All4 t s) = br_form (group true 4 (booleans u) t s) refl (λ g. group_small true 4 (booleans u) t s (omega arith) (first t s (and_parts _ _ g.range).0))
+  boolean_form (boolean.Eight EightName.Any8 t s) = br_form (group false 8 (booleans u) t s) refl (λ g. group_small false 8 (booleans u) t s (omega arith) (first t s (and_parts _ _ g.range).0))
+  boolean_form (boolean.Eight EightName.All8 t s) = br_form (group true 8 (booleans u) t s) refl (λ g. group_small true 8 (booleans u) t s (omega arith) (first t s (and_parts _ _ g.range).0))
+  boolean_form (boolean.Test TestName.Bf s offset) = branches_form (holds cond_.BitClear u s) offset refl
+  boolean_form (boolean.Test TestName.Bt s offset) = branches_form (holds cond_.BitSet u s) offset refl
+  boolean_form (boolean.Choice ChoiceName.Movf r s t) = moves_form (holds cond_.BitClear u t) r refl (omega arith)
+  boolean_form (boolean.Choice ChoiceName.Movt r s t) = moves_form (holds cond_.BitSet u t) r refl (omega arith)
 
   pub rows_have_forms : (i : Insn) → Form i (λ ps t. outcome code i pc x y u v ps t)
   unfolding outcome

@@ -11,7 +11,7 @@ use Rattle.xt_rows.specs.Outcomes.{outcome}
 use Rattle.xt_rows.proofs.Forms.{Form, Puts, PutsLoaded, Jumps, Calls, CallsWindow, Loops, SetsRegister, PutsSpecial, WritesSpecial, ExchangesSpecial, PutsPointer, SetsPointer, EndsException, EndsInterrupt, SetsLevel, Waits, Nothing, AsksLoad, AsksStore, AsksSwap, Makes, is_calm, rows_have_forms}
 
 unfoldable pub pointer_left : Insn → ℕ → ℕ → ℕ
-pointer_left (insn.System (system.Rur UserName.Wur t n)) x pointer = x
+pointer_left (insn.System (system.User UserName.Wur t n)) x pointer = x
 pointer_left _ x pointer = pointer
 
 abbrev pub LeavesPointer : ℕ → Outcome → Type 0
@@ -21,7 +21,7 @@ LeavesPointer t _ = Unit {0}
 
 kept : (i : Insn) (x pointer : ℕ) → is_calm i ≡ true → pointer ≡ pointer_left i x pointer
 unfolding is_calm pointer_left
-kept (insn.System (system.Rur UserName.Wur t n)) x pointer c = absurd cc
+kept (insn.System (system.User UserName.Wur t n)) x pointer c = absurd cc
 kept _ x pointer c = refl
 
 module _ (code : ℕ → ℕ) (pc x y u v : ℕ) where

@@ -10,12 +10,12 @@ use Rattle.xt_isa.specs.declared.Insn.TheVariants as insn
 use Rattle.xt_isa.specs.declared.shift.Shift.TheVariants as shift
 use Rattle.xt_isa.specs.declared.memory.Memory.TheVariants as memory
 use Rattle.xt_isa.specs.declared.control.Control.TheVariants as control
-use Rattle.xt_isa.specs.declared.control.RetName.TheVariants as RetName
+use Rattle.xt_isa.specs.declared.control.ReturnName.TheVariants as ReturnName
 use Rattle.xt_isa.specs.declared.system.System.TheVariants as system
-use Rattle.xt_isa.specs.declared.system.ReturnName.TheVariants as ReturnName
+use Rattle.xt_isa.specs.declared.system.ExceptionReturnName.TheVariants as ExceptionReturnName
 use Rattle.xt_isa.specs.declared.system.SpecialName.TheVariants as SpecialName
 use Rattle.xt_isa.specs.declared.density.Density.TheVariants as density
-use Rattle.xt_isa.specs.declared.density.NarrowRetName.TheVariants as NarrowRetName
+use Rattle.xt_isa.specs.declared.density.BareName.TheVariants as BareName
 use Rattle.xt_map.specs.Regions.{is_mapped}
 use Rattle.xt_special.specs.declared.ps.Ps.{Ps}
 use Rattle.xt_special.specs.Numbers as number
@@ -42,8 +42,8 @@ is_entry _ = false
 
 -- RETW and RETW.N
 unfoldable pub is_return : Insn → Bool
-is_return (insn.Control (control.Ret RetName.Retw)) = true
-is_return (insn.Density (density.Ret NarrowRetName.Retw)) = true
+is_return (insn.Control (control.Return ReturnName.Retw)) = true
+is_return (insn.Density (density.Bare BareName.Retw)) = true
 is_return _ = false
 
 unfoldable pub is_movsp : Insn → Bool
@@ -52,27 +52,27 @@ is_movsp _ = false
 
 -- L32E, S32E, RFWO, RFWU and ROTW
 unfoldable pub is_windowing : Insn → Bool
-is_windowing (insn.Memory (memory.L32e name t s offset)) = true
-is_windowing (insn.System (system.Rfe ReturnName.Rfwo)) = true
-is_windowing (insn.System (system.Rfe ReturnName.Rfwu)) = true
+is_windowing (insn.Memory (memory.Window name t s offset)) = true
+is_windowing (insn.System (system.ExceptionReturn ExceptionReturnName.Rfwo)) = true
+is_windowing (insn.System (system.ExceptionReturn ExceptionReturnName.Rfwu)) = true
 is_windowing (insn.System (system.Rotw n)) = true
 is_windowing _ = false
 
 -- RSR, WSR or XSR of WINDOWBASE or WINDOWSTART
 unfoldable pub names_window_register : Insn → Bool
-names_window_register (insn.System (system.Rsr name t n)) = is_window_register n
+names_window_register (insn.System (system.Special name t n)) = is_window_register n
 names_window_register _ = false
 
 -- WSR or XSR of EPC1
 unfoldable pub sets_epc1 : Insn → Bool
-sets_epc1 (insn.System (system.Rsr SpecialName.Wsr t n)) = n == number.epc 1
-sets_epc1 (insn.System (system.Rsr SpecialName.Xsr t n)) = n == number.epc 1
+sets_epc1 (insn.System (system.Special SpecialName.Wsr t n)) = n == number.epc 1
+sets_epc1 (insn.System (system.Special SpecialName.Xsr t n)) = n == number.epc 1
 sets_epc1 _ = false
 
 -- WSR and XSR: the visible register that is read, and the special register that is written
 unfoldable pub moved_to : Insn → Option (ℕ × ℕ)
-moved_to (insn.System (system.Rsr SpecialName.Wsr t n)) = Some (t, n)
-moved_to (insn.System (system.Rsr SpecialName.Xsr t n)) = Some (t, n)
+moved_to (insn.System (system.Special SpecialName.Wsr t n)) = Some (t, n)
+moved_to (insn.System (system.Special SpecialName.Xsr t n)) = Some (t, n)
 moved_to _ = None
 
 -- ---- a row's outcome fits its instruction
@@ -110,8 +110,8 @@ SetsSaved i sets = (n : ℕ) → is_saved n ≡ true → SetsOne (moved_to i) n 
 
 abbrev pub IsReturn : Insn → Type 0
 IsReturn i =
-    (i ≡ insn.Control (control.Ret RetName.Retw))
-    ⊎ (i ≡ insn.Density (density.Ret NarrowRetName.Retw))
+    (i ≡ insn.Control (control.Return ReturnName.Retw))
+    ⊎ (i ≡ insn.Density (density.Bare BareName.Retw))
 
 abbrev pub FitsStep : Insn → WindowStep → Type 0
 FitsStep i (Enters number value) = (size : ℤ) × (i ≡ insn.Control (control.Entry number size))

@@ -149,10 +149,10 @@ AsksWith e _ = Unit {0}
 
 -- WSR and XSR of PS, RSIL, WAITI and the returns
 unfoldable pub sets_mode : Insn → Bool
-sets_mode (insn.System (system.Rsr SpecialName.Wsr t n)) = n == number.ps
-sets_mode (insn.System (system.Rsr SpecialName.Xsr t n)) = n == number.ps
-sets_mode (insn.System (system.Rsil name t level)) = true
-sets_mode (insn.System (system.Rfe name)) = true
+sets_mode (insn.System (system.Special SpecialName.Wsr t n)) = n == number.ps
+sets_mode (insn.System (system.Special SpecialName.Xsr t n)) = n == number.ps
+sets_mode (insn.System (system.Level name t level)) = true
+sets_mode (insn.System (system.ExceptionReturn name)) = true
 sets_mode (insn.System (system.Rfi level)) = true
 sets_mode _ = false
 

@@ -28,8 +28,8 @@ fn sets_br(value: u16, e: Effect) -> Outcome
 #[tactic(auto, unfolding(crate::specs::Outcomes::boolean_outcome, xt_isa::specs::Ranges::three_registers))]
 #[inline(always)]
 fn operation(name: LogicName, r: u8, s: u8, t: u8, u: u32, e: Effect) -> Outcome
-    requires { boolean_in_range (boolean.Andb name r s t) ≡ true }
-    ensures { (pc x : ℕ) → result ≡ boolean_outcome (boolean.Andb name r s t) pc x u e }
+    requires { boolean_in_range (boolean.Logic name r s t) ≡ true }
+    ensures { (pc x : ℕ) → result ≡ boolean_outcome (boolean.Logic name r s t) pc x u e }
 {
     match name {
         LogicName::Andb => sets_br(logic(BoolOp::And, booleans(u), r, s, t), e),
@@ -43,8 +43,8 @@ fn operation(name: LogicName, r: u8, s: u8, t: u8, u: u32, e: Effect) -> Outcome
 #[tactic(auto, unfolding(crate::specs::Outcomes::boolean_outcome, xt_isa::specs::Ranges::two_registers))]
 #[inline(always)]
 fn of_four(name: FourName, t: u8, s: u8, u: u32, e: Effect) -> Outcome
-    requires { boolean_in_range (boolean.Any4 name t s) ≡ true }
-    ensures { (pc x : ℕ) → result ≡ boolean_outcome (boolean.Any4 name t s) pc x u e }
+    requires { boolean_in_range (boolean.Four name t s) ≡ true }
+    ensures { (pc x : ℕ) → result ≡ boolean_outcome (boolean.Four name t s) pc x u e }
 {
     match name {
         FourName::Any4 => sets_br(group(false, 4, booleans(u), t, s), e),
@@ -55,8 +55,8 @@ fn of_four(name: FourName, t: u8, s: u8, u: u32, e: Effect) -> Outcome
 #[tactic(auto, unfolding(crate::specs::Outcomes::boolean_outcome, xt_isa::specs::Ranges::two_registers))]
 #[inline(always)]
 fn of_eight(name: EightName, t: u8, s: u8, u: u32, e: Effect) -> Outcome
-    requires { boolean_in_range (boolean.Any8 name t s) ≡ true }
-    ensures { (pc x : ℕ) → result ≡ boolean_outcome (boolean.Any8 name t s) pc x u e }
+    requires { boolean_in_range (boolean.Eight name t s) ≡ true }
+    ensures { (pc x : ℕ) → result ≡ boolean_outcome (boolean.Eight name t s) pc x u e }
 {
     match name {
         EightName::Any8 => sets_br(group(false, 8, booleans(u), t, s), e),
@@ -67,7 +67,7 @@ fn of_eight(name: EightName, t: u8, s: u8, u: u32, e: Effect) -> Outcome
 #[tactic(auto, unfolding(crate::specs::Outcomes::boolean_outcome))]
 #[inline(always)]
 fn test_branch(name: TestName, s: u8, offset: i32, pc: u32, u: u32, e: Effect) -> Outcome
-    ensures { (x : ℕ) → result ≡ boolean_outcome (boolean.Bf name s offset) pc x u e }
+    ensures { (x : ℕ) → result ≡ boolean_outcome (boolean.Test name s offset) pc x u e }
 {
     match name {
         TestName::Bf => branches(holds(Cond::BitClear, u, s as u32), pc, offset, e),
@@ -78,7 +78,7 @@ fn test_branch(name: TestName, s: u8, offset: i32, pc: u32, u: u32, e: Effect) -
 #[tactic(auto, unfolding(crate::specs::Outcomes::boolean_outcome))]
 #[inline(always)]
 fn choice(name: ChoiceName, r: u8, t: u8, x: u32, u: u32, e: Effect) -> Outcome
-    ensures { (s pc : ℕ) → result ≡ boolean_outcome (boolean.Movf name r s t) pc x u e }
+    ensures { (s pc : ℕ) → result ≡ boolean_outcome (boolean.Choice name r s t) pc x u e }
 {
     match name {
         ChoiceName::Movf => moves(holds(Cond::BitClear, u, t as u32), r, x, e),
@@ -94,10 +94,10 @@ pub fn boolean_outcome<U>(i: Boolean, pc: u32, x: u32, u: u32, e: Effect) -> Out
     ensures { result ≡ boolean_outcome i pc x u e }
 {
     match i {
-        Boolean::Andb(name, r, s, t) => operation(name, r, s, t, u, e),
-        Boolean::Any4(name, t, s) => of_four(name, t, s, u, e),
-        Boolean::Any8(name, t, s) => of_eight(name, t, s, u, e),
-        Boolean::Bf(name, s, offset) => test_branch(name, s, offset, pc, u, e),
-        Boolean::Movf(name, r, _, t) => choice(name, r, t, x, u, e),
+        Boolean::Logic(name, r, s, t) => operation(name, r, s, t, u, e),
+        Boolean::Four(name, t, s) => of_four(name, t, s, u, e),
+        Boolean::Eight(name, t, s) => of_eight(name, t, s, u, e),
+        Boolean::Test(name, s, offset) => test_branch(name, s, offset, pc, u, e),
+        Boolean::Choice(name, r, _, t) => choice(name, r, t, x, u, e),
     }
 }

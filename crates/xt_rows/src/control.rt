@@ -7,14 +7,15 @@ use crate::numbers::{branch_target, call_target, minus, natural, plus};
 use crate::operands::{call_size, callx_size};
 use crate::outcome::{Effect, Outcome, WindowStep};
 use xt_isa::control::{
-    BitName, BranchName, ConstName, ConstuName, Control, LoopName, OppositeName, RetName, ZeroName,
+    BitName, BranchName, ConstName, ConstuName, Control, LoopName, OppositeName, ReturnName,
+    ZeroName,
 };
 use xt_word::conditions::{Cond, holds};
 
 #[tactic(auto, unfolding(crate::specs::Outcomes::control_outcome))]
 #[inline(always)]
 fn zero_branch(name: ZeroName, offset: i32, pc: u32, x: u32, e: Effect) -> Outcome
-    ensures { (s y : ℕ) → result ≡ control_outcome (control.Beqz name s offset) pc x y e }
+    ensures { (s y : ℕ) → result ≡ control_outcome (control.BranchZero name s offset) pc x y e }
 {
     match name {
         ZeroName::Beqz => branches(holds(Cond::Eq, x, 0), pc, offset, e),
@@ -27,7 +28,7 @@ fn zero_branch(name: ZeroName, offset: i32, pc: u32, x: u32, e: Effect) -> Outco
 #[tactic(auto, unfolding(crate::specs::Outcomes::control_outcome))]
 #[inline(always)]
 fn constant_branch(name: ConstName, c: i32, offset: i32, pc: u32, x: u32, e: Effect) -> Outcome
-    ensures { (s y : ℕ) → result ≡ control_outcome (control.Beqi name s c offset) pc x y e }
+    ensures { (s y : ℕ) → result ≡ control_outcome (control.BranchConst name s c offset) pc x y e }
 {
     match name {
         ConstName::Beqi => branches(holds(Cond::Eq, x, plus(0, c)), pc, offset, e),
@@ -40,7 +41,7 @@ fn constant_branch(name: ConstName, c: i32, offset: i32, pc: u32, x: u32, e: Eff
 #[tactic(auto, unfolding(crate::specs::Outcomes::control_outcome))]
 #[inline(always)]
 fn unsigned_branch(name: ConstuName, c: i32, offset: i32, pc: u32, x: u32, e: Effect) -> Outcome
-    ensures { (s y : ℕ) → result ≡ control_outcome (control.Bltui name s c offset) pc x y e }
+    ensures { (s y : ℕ) → result ≡ control_outcome (control.BranchConstu name s c offset) pc x y e }
 {
     match name {
         ConstuName::Bltui => branches(holds(Cond::Ltu, x, plus(0, c)), pc, offset, e),
@@ -51,7 +52,7 @@ fn unsigned_branch(name: ConstuName, c: i32, offset: i32, pc: u32, x: u32, e: Ef
 #[tactic(auto, unfolding(crate::specs::Outcomes::control_outcome))]
 #[inline(always)]
 fn branch(name: BranchName, offset: i32, pc: u32, x: u32, y: u32, e: Effect) -> Outcome
-    ensures { (s t : ℕ) → result ≡ control_outcome (control.Bnone name s t offset) pc x y e }
+    ensures { (s t : ℕ) → result ≡ control_outcome (control.Branch name s t offset) pc x y e }
 {
     match name {
         BranchName::Bnone => branches(holds(Cond::NoBits, x, y), pc, offset, e),
@@ -66,7 +67,7 @@ fn branch(name: BranchName, offset: i32, pc: u32, x: u32, y: u32, e: Effect) -> 
 #[tactic(auto, unfolding(crate::specs::Outcomes::control_outcome))]
 #[inline(always)]
 fn opposite_branch(name: OppositeName, offset: i32, pc: u32, x: u32, y: u32, e: Effect) -> Outcome
-    ensures { (s t : ℕ) → result ≡ control_outcome (control.Bany name s t offset) pc x y e }
+    ensures { (s t : ℕ) → result ≡ control_outcome (control.BranchNot name s t offset) pc x y e }
 {
     match name {
         OppositeName::Bany => branches(holds(Cond::AnyBits, x, y), pc, offset, e),
@@ -81,7 +82,7 @@ fn opposite_branch(name: OppositeName, offset: i32, pc: u32, x: u32, y: u32, e: 
 #[tactic(auto, unfolding(crate::specs::Outcomes::control_outcome))]
 #[inline(always)]
 fn bit_branch(name: BitName, b: i32, offset: i32, pc: u32, x: u32, e: Effect) -> Outcome
-    ensures { (s y : ℕ) → result ≡ control_outcome (control.Bbci name s b offset) pc x y e }
+    ensures { (s y : ℕ) → result ≡ control_outcome (control.BranchBit name s b offset) pc x y e }
 {
     match name {
         BitName::Bbci => branches(holds(Cond::BitClear, x, natural(b)), pc, offset, e),
@@ -110,17 +111,17 @@ pub fn control_outcome<U>(i: Control, pc: u32, x: u32, y: u32, e: Effect) -> Out
 {
     match i {
         Control::J(offset) => goes(branch_target(pc, offset), e),
-        Control::Call0(name, offset) => calls(call_size(name), call_target(pc, offset), pc, e),
-        Control::Ret(RetName::Ret) => goes(x, e),
-        Control::Ret(RetName::Retw) => Outcome::Windowed(WindowStep::Returns(x)),
+        Control::Call(name, offset) => calls(call_size(name), call_target(pc, offset), pc, e),
+        Control::Return(ReturnName::Ret) => goes(x, e),
+        Control::Return(ReturnName::Retw) => Outcome::Windowed(WindowStep::Returns(x)),
         Control::Jx(_) => goes(x, e),
-        Control::Callx0(name, _) => calls(callx_size(name), x, pc, e),
-        Control::Beqz(name, _, offset) => zero_branch(name, offset, pc, x, e),
-        Control::Beqi(name, _, c, offset) => constant_branch(name, c, offset, pc, x, e),
-        Control::Bltui(name, _, c, offset) => unsigned_branch(name, c, offset, pc, x, e),
-        Control::Bnone(name, _, _, offset) => branch(name, offset, pc, x, y, e),
-        Control::Bany(name, _, _, offset) => opposite_branch(name, offset, pc, x, y, e),
-        Control::Bbci(name, _, b, offset) => bit_branch(name, b, offset, pc, x, e),
+        Control::Callx(name, _) => calls(callx_size(name), x, pc, e),
+        Control::BranchZero(name, _, offset) => zero_branch(name, offset, pc, x, e),
+        Control::BranchConst(name, _, c, offset) => constant_branch(name, c, offset, pc, x, e),
+        Control::BranchConstu(name, _, c, offset) => unsigned_branch(name, c, offset, pc, x, e),
+        Control::Branch(name, _, _, offset) => branch(name, offset, pc, x, y, e),
+        Control::BranchNot(name, _, _, offset) => opposite_branch(name, offset, pc, x, y, e),
+        Control::BranchBit(name, _, b, offset) => bit_branch(name, b, offset, pc, x, e),
         Control::Entry(s, n) => Outcome::Windowed(WindowStep::Enters(s, minus(x, natural(n)))),
         Control::Loop(name, _, offset) => loop_entry(name, offset, pc, x, e),
     }

@@ -8,7 +8,7 @@ use crate::cause;
 use crate::effects::{branches, goes, loads, puts, stores};
 use crate::numbers::plus;
 use crate::outcome::{Effect, Outcome, WindowStep};
-use xt_isa::density::{Density, NarrowName, NarrowRetName, NarrowZeroName};
+use xt_isa::density::{BareName, Density, NarrowName, NarrowZeroName};
 use xt_map::Constants;
 use xt_word::arithmetic::addx;
 use xt_word::conditions::{Cond, holds};
@@ -17,7 +17,8 @@ use xt_word::conditions::{Cond, holds};
 #[inline(always)]
 fn narrow_access(code: &Constants, name: NarrowName, t: u8, addr: u32, y: u32, e: Effect) -> Outcome
     ensures { (s pc x : ℕ) (offset : ℤ) → addr ≡ plus x offset
-        → result ≡ density_outcome (constant_byte code.now) (density.L32i name t s offset) pc x y e }
+        → result ≡
+        density_outcome (constant_byte code.now) (density.Word name t s offset) pc x y e }
 {
     match name {
         NarrowName::L32i => loads(code, 4, false, t, addr, e),
@@ -39,21 +40,21 @@ pub fn density_outcome<U>(
     ensures { result ≡ density_outcome (constant_byte code.now) i pc x y e }
 {
     match i {
-        Density::L32i(name, t, _, offset) => narrow_access(code, name, t, plus(x, offset), y, e),
+        Density::Word(name, t, _, offset) => narrow_access(code, name, t, plus(x, offset), y, e),
         Density::Add(r, _, _) => puts(r, addx(x, y, 0), e),
         Density::Addi(r, _, n) => puts(r, plus(x, n), e),
         Density::Movi(s, n) => puts(s, plus(0, n), e),
-        Density::Beqz(NarrowZeroName::Beqz, _, offset) => {
+        Density::BranchZero(NarrowZeroName::Beqz, _, offset) => {
             branches(holds(Cond::Eq, x, 0), pc, offset, e)
         }
-        Density::Beqz(NarrowZeroName::Bnez, _, offset) => {
+        Density::BranchZero(NarrowZeroName::Bnez, _, offset) => {
             branches(holds(Cond::Ne, x, 0), pc, offset, e)
         }
         Density::Mov(t, _) => puts(t, x, e),
-        Density::Ret(NarrowRetName::Ret) => goes(x, e),
-        Density::Ret(NarrowRetName::Retw) => Outcome::Windowed(WindowStep::Returns(x)),
-        Density::Ret(NarrowRetName::Nop) => Outcome::Does(e),
-        Density::Ret(NarrowRetName::Ill) => Outcome::Raises(cause::ILLEGAL_INSTRUCTION, None),
+        Density::Bare(BareName::Ret) => goes(x, e),
+        Density::Bare(BareName::Retw) => Outcome::Windowed(WindowStep::Returns(x)),
+        Density::Bare(BareName::Nop) => Outcome::Does(e),
+        Density::Bare(BareName::Ill) => Outcome::Raises(cause::ILLEGAL_INSTRUCTION, None),
         Density::Break(_) => Outcome::Stops,
     }
 }

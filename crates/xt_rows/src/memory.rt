@@ -15,7 +15,8 @@ use xt_map::Constants;
 #[inline(always)]
 fn byte_access(code: &Constants, name: ByteName, t: u8, addr: u32, y: u32, e: Effect) -> Outcome
     ensures { (s pc x u : ℕ) (offset : ℤ) → addr ≡ plus x offset
-        → result ≡ memory_outcome (constant_byte code.now) (memory.L8ui name t s offset) pc x y u e }
+        → result ≡
+        memory_outcome (constant_byte code.now) (memory.Byte name t s offset) pc x y u e }
 {
     match name {
         ByteName::L8ui => loads(code, 1, false, t, addr, e),
@@ -27,7 +28,8 @@ fn byte_access(code: &Constants, name: ByteName, t: u8, addr: u32, y: u32, e: Ef
 #[inline(always)]
 fn half_access(code: &Constants, name: HalfName, t: u8, addr: u32, y: u32, e: Effect) -> Outcome
     ensures { (s pc x u : ℕ) (offset : ℤ) → addr ≡ plus x offset
-        → result ≡ memory_outcome (constant_byte code.now) (memory.L16ui name t s offset) pc x y u e }
+        → result ≡
+        memory_outcome (constant_byte code.now) (memory.Half name t s offset) pc x y u e }
 {
     match name {
         HalfName::L16ui => loads(code, 2, false, t, addr, e),
@@ -40,7 +42,8 @@ fn half_access(code: &Constants, name: HalfName, t: u8, addr: u32, y: u32, e: Ef
 #[inline(always)]
 fn word_access(code: &Constants, name: WordName, t: u8, addr: u32, y: u32, e: Effect) -> Outcome
     ensures { (s pc x u : ℕ) (offset : ℤ) → addr ≡ plus x offset
-        → result ≡ memory_outcome (constant_byte code.now) (memory.L32i name t s offset) pc x y u e }
+        → result ≡
+        memory_outcome (constant_byte code.now) (memory.Word name t s offset) pc x y u e }
 {
     match name {
         WordName::L32i | WordName::L32ai => loads(code, 4, false, t, addr, e),
@@ -52,7 +55,8 @@ fn word_access(code: &Constants, name: WordName, t: u8, addr: u32, y: u32, e: Ef
 #[inline(always)]
 fn window_access(code: &Constants, name: WindowName, t: u8, addr: u32, y: u32, e: Effect) -> Outcome
     ensures { (s pc x u : ℕ) (offset : ℤ) → addr ≡ plus x offset
-        → result ≡ memory_outcome (constant_byte code.now) (memory.L32e name t s offset) pc x y u e }
+        → result ≡
+        memory_outcome (constant_byte code.now) (memory.Window name t s offset) pc x y u e }
 {
     match name {
         WindowName::L32e => loads(code, 4, false, t, addr, e),
@@ -76,11 +80,11 @@ pub fn memory_outcome<U>(
     ensures { result ≡ memory_outcome (constant_byte code.now) i pc x y u e }
 {
     match i {
-        Memory::L8ui(name, t, _, offset) => byte_access(code, name, t, plus(x, offset), y, e),
-        Memory::L16ui(name, t, _, offset) => half_access(code, name, t, plus(x, offset), y, e),
-        Memory::L32i(name, t, _, offset) => word_access(code, name, t, plus(x, offset), y, e),
+        Memory::Byte(name, t, _, offset) => byte_access(code, name, t, plus(x, offset), y, e),
+        Memory::Half(name, t, _, offset) => half_access(code, name, t, plus(x, offset), y, e),
+        Memory::Word(name, t, _, offset) => word_access(code, name, t, plus(x, offset), y, e),
         Memory::S32c1i(t, _, offset) => swaps(u, y, t, plus(x, offset), e),
-        Memory::L32e(name, t, _, offset) => window_access(code, name, t, plus(x, offset), y, e),
+        Memory::Window(name, t, _, offset) => window_access(code, name, t, plus(x, offset), y, e),
         Memory::L32r(t, offset) => loads(code, 4, false, t, literal_address(pc, offset), e),
         Memory::Movi(t, n) => puts(t, plus(0, n), e),
         Memory::Addi(t, _, n) => puts(t, plus(x, n), e),

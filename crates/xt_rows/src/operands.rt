@@ -7,10 +7,10 @@ ghost use Rattle.xt_rows.specs.Operands.{boolean_named, boolean_reads, call_size
 use crate::numbers::natural;
 use xt_isa::boolean::Boolean;
 use xt_isa::control::{CallName, CallxName, Control};
-use xt_isa::density::{Density, NarrowName, NarrowRetName};
+use xt_isa::density::{BareName, Density, NarrowName};
 use xt_isa::memory::{ByteName, HalfName, Memory, WindowName, WordName};
 use xt_isa::shift::Shift;
-use xt_isa::system::{LevelName, ReturnName, SpecialName, System, UserName};
+use xt_isa::system::{ExceptionReturnName, LevelName, SpecialName, System, UserName};
 use xt_isa::three::Three;
 use xt_isa::{Insn, number};
 
@@ -50,16 +50,16 @@ fn three_reads(i: Three) -> Registers
     ensures { result ≡ three_reads i }
 {
     match i {
-        Three::And(_, _, s, t)
-        | Three::Add(_, _, s, t)
-        | Three::Sub(_, _, s, t)
+        Three::Bitwise(_, _, s, t)
+        | Three::Sum(_, _, s, t)
+        | Three::Difference(_, _, s, t)
         | Three::Src(_, s, t)
-        | Three::Mul16u(_, _, s, t)
+        | Three::Mul16(_, _, s, t)
         | Three::Mull(_, s, t)
-        | Three::Muluh(_, _, s, t)
-        | Three::Quou(_, _, s, t)
-        | Three::Min(_, _, s, t)
-        | Three::Moveqz(_, _, s, t) => (Some(s), Some(t)),
+        | Three::MulHigh(_, _, s, t)
+        | Three::Divide(_, _, s, t)
+        | Three::MinMax(_, _, s, t)
+        | Three::Move(_, _, s, t) => (Some(s), Some(t)),
     }
 }
 
@@ -68,18 +68,18 @@ fn shift_reads(i: Shift) -> Registers
     ensures { result ≡ shift_reads i }
 {
     match i {
-        Shift::Neg(_, _, s)
-        | Shift::Srl(_, _, s)
+        Shift::Sign(_, _, s)
+        | Shift::ShiftRight(_, _, s)
         | Shift::Sll(_, s)
         | Shift::Slli(_, s, _)
         | Shift::Srai(_, s, _)
         | Shift::Srli(_, s, _)
         | Shift::Extui(_, s, _, _)
-        | Shift::Sext(_, _, s, _)
-        | Shift::Nsa(_, _, s)
+        | Shift::Signed(_, _, s, _)
+        | Shift::Normalize(_, _, s)
         | Shift::Movsp(_, s)
-        | Shift::Ssr(_, s)
-        | Shift::Ssa8l(_, s) => (Some(s), None),
+        | Shift::Amount(_, s)
+        | Shift::ByteAmount(_, s) => (Some(s), None),
         Shift::Ssai(_) => (None, None),
     }
 }
@@ -89,17 +89,17 @@ fn memory_reads(i: Memory) -> Registers
     ensures { result ≡ memory_reads i }
 {
     match i {
-        Memory::L8ui(ByteName::L8ui, _, s, _)
-        | Memory::L16ui(HalfName::L16ui | HalfName::L16si, _, s, _)
-        | Memory::L32i(WordName::L32i | WordName::L32ai, _, s, _)
-        | Memory::L32e(WindowName::L32e, _, s, _)
+        Memory::Byte(ByteName::L8ui, _, s, _)
+        | Memory::Half(HalfName::L16ui | HalfName::L16si, _, s, _)
+        | Memory::Word(WordName::L32i | WordName::L32ai, _, s, _)
+        | Memory::Window(WindowName::L32e, _, s, _)
         | Memory::Addi(_, s, _)
         | Memory::Addmi(_, s, _) => (Some(s), None),
-        Memory::L8ui(ByteName::S8i, t, s, _)
-        | Memory::L16ui(HalfName::S16i, t, s, _)
-        | Memory::L32i(WordName::S32i | WordName::S32ri, t, s, _)
+        Memory::Byte(ByteName::S8i, t, s, _)
+        | Memory::Half(HalfName::S16i, t, s, _)
+        | Memory::Word(WordName::S32i | WordName::S32ri, t, s, _)
         | Memory::S32c1i(t, s, _)
-        | Memory::L32e(WindowName::S32e, t, s, _) => (Some(s), Some(t)),
+        | Memory::Window(WindowName::S32e, t, s, _) => (Some(s), Some(t)),
         Memory::L32r(_, _) | Memory::Movi(_, _) => (None, None),
     }
 }
@@ -109,17 +109,17 @@ fn control_reads(i: Control) -> Registers
     ensures { result ≡ control_reads i }
 {
     match i {
-        Control::J(_) | Control::Call0(_, _) => (None, None),
-        Control::Ret(_) => (Some(0), None),
+        Control::J(_) | Control::Call(_, _) => (None, None),
+        Control::Return(_) => (Some(0), None),
         Control::Jx(s)
-        | Control::Callx0(_, s)
-        | Control::Beqz(_, s, _)
-        | Control::Beqi(_, s, _, _)
-        | Control::Bltui(_, s, _, _)
-        | Control::Bbci(_, s, _, _)
+        | Control::Callx(_, s)
+        | Control::BranchZero(_, s, _)
+        | Control::BranchConst(_, s, _, _)
+        | Control::BranchConstu(_, s, _, _)
+        | Control::BranchBit(_, s, _, _)
         | Control::Entry(s, _)
         | Control::Loop(_, s, _) => (Some(s), None),
-        Control::Bnone(_, s, t, _) | Control::Bany(_, s, t, _) => (Some(s), Some(t)),
+        Control::Branch(_, s, t, _) | Control::BranchNot(_, s, t, _) => (Some(s), Some(t)),
     }
 }
 
@@ -128,8 +128,8 @@ fn system_reads(i: System) -> Registers
     ensures { result ≡ system_reads i }
 {
     match i {
-        System::Rsr(SpecialName::Wsr | SpecialName::Xsr, t, _) => (Some(t), None),
-        System::Rur(UserName::Wur, t, _) => (Some(t), None),
+        System::Special(SpecialName::Wsr | SpecialName::Xsr, t, _) => (Some(t), None),
+        System::User(UserName::Wur, t, _) => (Some(t), None),
         _ => (None, None),
     }
 }
@@ -139,16 +139,16 @@ fn density_reads(i: Density) -> Registers
     ensures { result ≡ density_reads i }
 {
     match i {
-        Density::L32i(NarrowName::L32i, _, s, _)
+        Density::Word(NarrowName::L32i, _, s, _)
         | Density::Addi(_, s, _)
-        | Density::Beqz(_, s, _)
+        | Density::BranchZero(_, s, _)
         | Density::Mov(_, s) => (Some(s), None),
-        Density::L32i(NarrowName::S32i, t, s, _) => (Some(s), Some(t)),
+        Density::Word(NarrowName::S32i, t, s, _) => (Some(s), Some(t)),
         Density::Add(_, s, t) => (Some(s), Some(t)),
-        Density::Ret(NarrowRetName::Ret | NarrowRetName::Retw) => (Some(0), None),
-        Density::Movi(_, _)
-        | Density::Ret(NarrowRetName::Nop | NarrowRetName::Ill)
-        | Density::Break(_) => (None, None),
+        Density::Bare(BareName::Ret | BareName::Retw) => (Some(0), None),
+        Density::Movi(_, _) | Density::Bare(BareName::Nop | BareName::Ill) | Density::Break(_) => (
+            None, None,
+        ),
     }
 }
 
@@ -157,11 +157,11 @@ fn boolean_reads(i: Boolean) -> Registers
     ensures { result ≡ boolean_reads i }
 {
     match i {
-        Boolean::Movf(_, _, s, _) => (Some(s), None),
-        Boolean::Andb(_, _, _, _)
-        | Boolean::Any4(_, _, _)
-        | Boolean::Any8(_, _, _)
-        | Boolean::Bf(_, _, _) => (None, None),
+        Boolean::Choice(_, _, s, _) => (Some(s), None),
+        Boolean::Logic(_, _, _, _)
+        | Boolean::Four(_, _, _)
+        | Boolean::Eight(_, _, _)
+        | Boolean::Test(_, _, _) => (None, None),
     }
 }
 
@@ -201,15 +201,14 @@ fn system_special_reads(i: System) -> Registers
     ensures { result ≡ system_special_reads i }
 {
     match i {
-        System::Rfe(ReturnName::Rfe | ReturnName::Rfwo | ReturnName::Rfwu) => (
-            Some(number::EPC1),
-            None,
-        ),
-        System::Rfe(ReturnName::Rfde) => (Some(number::DEPC), None),
+        System::ExceptionReturn(
+            ExceptionReturnName::Rfe | ExceptionReturnName::Rfwo | ExceptionReturnName::Rfwu,
+        ) => (Some(number::EPC1), None),
+        System::ExceptionReturn(ExceptionReturnName::Rfde) => (Some(number::DEPC), None),
         System::Rfi(level) => return_registers(level),
-        System::Rsr(SpecialName::Rsr, _, n) => (Some(n), None),
-        System::Rsr(SpecialName::Wsr, _, n) => (None, changes_interrupt(n)),
-        System::Rsr(SpecialName::Xsr, _, n) => (Some(n), changes_interrupt(n)),
+        System::Special(SpecialName::Rsr, _, n) => (Some(n), None),
+        System::Special(SpecialName::Wsr, _, n) => (None, changes_interrupt(n)),
+        System::Special(SpecialName::Xsr, _, n) => (Some(n), changes_interrupt(n)),
         _ => (None, None),
     }
 }
@@ -235,7 +234,7 @@ pub fn special_reads(i: Insn) -> Registers
 {
     match i {
         Insn::Three(Three::Src(_, _, _)) => (Some(number::SAR), None),
-        Insn::Shift(Shift::Srl(_, _, _) | Shift::Sll(_, _)) => (Some(number::SAR), None),
+        Insn::Shift(Shift::ShiftRight(_, _, _) | Shift::Sll(_, _)) => (Some(number::SAR), None),
         Insn::Memory(Memory::S32c1i(_, _, _)) => (Some(number::SCOMPARE1), None),
         Insn::System(i) => system_special_reads(i),
         Insn::Boolean(_) => (Some(number::BR), None),
@@ -248,16 +247,16 @@ fn three_named(i: Three) -> u8
     ensures { result ≡ three_named i }
 {
     match i {
-        Three::And(_, r, s, t)
-        | Three::Add(_, r, s, t)
-        | Three::Sub(_, r, s, t)
+        Three::Bitwise(_, r, s, t)
+        | Three::Sum(_, r, s, t)
+        | Three::Difference(_, r, s, t)
         | Three::Src(r, s, t)
-        | Three::Mul16u(_, r, s, t)
+        | Three::Mul16(_, r, s, t)
         | Three::Mull(r, s, t)
-        | Three::Muluh(_, r, s, t)
-        | Three::Quou(_, r, s, t)
-        | Three::Min(_, r, s, t)
-        | Three::Moveqz(_, r, s, t) => r.max(s.max(t)),
+        | Three::MulHigh(_, r, s, t)
+        | Three::Divide(_, r, s, t)
+        | Three::MinMax(_, r, s, t)
+        | Three::Move(_, r, s, t) => r.max(s.max(t)),
     }
 }
 
@@ -266,17 +265,17 @@ fn shift_named(i: Shift) -> u8
     ensures { result ≡ shift_named i }
 {
     match i {
-        Shift::Neg(_, r, s)
-        | Shift::Srl(_, r, s)
+        Shift::Sign(_, r, s)
+        | Shift::ShiftRight(_, r, s)
         | Shift::Sll(r, s)
         | Shift::Slli(r, s, _)
         | Shift::Srai(r, s, _)
         | Shift::Srli(r, s, _)
         | Shift::Extui(r, s, _, _)
-        | Shift::Sext(_, r, s, _)
-        | Shift::Nsa(_, r, s)
+        | Shift::Signed(_, r, s, _)
+        | Shift::Normalize(_, r, s)
         | Shift::Movsp(r, s) => r.max(s),
-        Shift::Ssr(_, s) | Shift::Ssa8l(_, s) => s,
+        Shift::Amount(_, s) | Shift::ByteAmount(_, s) => s,
         Shift::Ssai(_) => 0,
     }
 }
@@ -286,11 +285,11 @@ fn memory_named(i: Memory) -> u8
     ensures { result ≡ memory_named i }
 {
     match i {
-        Memory::L8ui(_, t, s, _)
-        | Memory::L16ui(_, t, s, _)
-        | Memory::L32i(_, t, s, _)
+        Memory::Byte(_, t, s, _)
+        | Memory::Half(_, t, s, _)
+        | Memory::Word(_, t, s, _)
         | Memory::S32c1i(t, s, _)
-        | Memory::L32e(_, t, s, _)
+        | Memory::Window(_, t, s, _)
         | Memory::Addi(t, s, _)
         | Memory::Addmi(t, s, _) => t.max(s),
         Memory::L32r(t, _) | Memory::Movi(t, _) => t,
@@ -302,17 +301,17 @@ fn control_named(i: Control) -> u8
     ensures { result ≡ control_named i }
 {
     match i {
-        Control::J(_) | Control::Ret(_) => 0,
-        Control::Call0(name, _) => 4 * call_size(name),
-        Control::Callx0(name, s) => (4 * callx_size(name)).max(s),
+        Control::J(_) | Control::Return(_) => 0,
+        Control::Call(name, _) => 4 * call_size(name),
+        Control::Callx(name, s) => (4 * callx_size(name)).max(s),
         Control::Jx(s)
-        | Control::Beqz(_, s, _)
-        | Control::Beqi(_, s, _, _)
-        | Control::Bltui(_, s, _, _)
-        | Control::Bbci(_, s, _, _)
+        | Control::BranchZero(_, s, _)
+        | Control::BranchConst(_, s, _, _)
+        | Control::BranchConstu(_, s, _, _)
+        | Control::BranchBit(_, s, _, _)
         | Control::Entry(s, _)
         | Control::Loop(_, s, _) => s,
-        Control::Bnone(_, s, t, _) | Control::Bany(_, s, t, _) => s.max(t),
+        Control::Branch(_, s, t, _) | Control::BranchNot(_, s, t, _) => s.max(t),
     }
 }
 
@@ -321,7 +320,8 @@ fn system_named(i: System) -> u8
     ensures { result ≡ system_named i }
 {
     match i {
-        System::Rsil(LevelName::Rsil, t, _) | System::Rsr(_, t, _) | System::Rur(_, t, _) => t,
+        System::Level(LevelName::Rsil, t, _) | System::Special(_, t, _) | System::User(_, t, _) =>
+            t,
         _ => 0,
     }
 }
@@ -331,10 +331,10 @@ fn density_named(i: Density) -> u8
     ensures { result ≡ density_named i }
 {
     match i {
-        Density::L32i(_, t, s, _) | Density::Addi(t, s, _) | Density::Mov(t, s) => t.max(s),
+        Density::Word(_, t, s, _) | Density::Addi(t, s, _) | Density::Mov(t, s) => t.max(s),
         Density::Add(r, s, t) => r.max(s.max(t)),
-        Density::Movi(s, _) | Density::Beqz(_, s, _) => s,
-        Density::Ret(_) | Density::Break(_) => 0,
+        Density::Movi(s, _) | Density::BranchZero(_, s, _) => s,
+        Density::Bare(_) | Density::Break(_) => 0,
     }
 }
 
@@ -343,11 +343,11 @@ fn boolean_named(i: Boolean) -> u8
     ensures { result ≡ boolean_named i }
 {
     match i {
-        Boolean::Movf(_, r, s, _) => r.max(s),
-        Boolean::Andb(_, _, _, _)
-        | Boolean::Any4(_, _, _)
-        | Boolean::Any8(_, _, _)
-        | Boolean::Bf(_, _, _) => 0,
+        Boolean::Choice(_, r, s, _) => r.max(s),
+        Boolean::Logic(_, _, _, _)
+        | Boolean::Four(_, _, _)
+        | Boolean::Eight(_, _, _)
+        | Boolean::Test(_, _, _) => 0,
     }
 }
 

@@ -7,7 +7,9 @@ ghost use Rattle.xt_rows.specs.Outcomes.{sets_sar, shift_outcome};
 use crate::effects::{puts, sets_special};
 use crate::numbers::natural;
 use crate::outcome::{Effect, Outcome, WindowStep};
-use xt_isa::shift::{NegName, NsaName, SextName, Shift, SrlName, Ssa8Name, SsrName};
+use xt_isa::shift::{
+    AmountName, ByteAmountName, NormalizeName, Shift, ShiftRightName, SignName, SignedName,
+};
 use xt_special::number;
 use xt_word::shifts::{extui, sll, slli, sra, srai, srl, srli, ssa8b, ssa8l, ssl, ssr};
 use xt_word::unary::{abs, clamps, neg, nsa, nsau, sext};
@@ -33,69 +35,69 @@ fn sets_sar(amount: u32, e: Effect) -> Outcome
 
 #[tactic(auto, unfolding(crate::specs::Outcomes::shift_outcome))]
 #[inline(always)]
-fn negated(name: NegName, r: u8, x: u32, e: Effect) -> Outcome
-    ensures { (t u : ℕ) → result ≡ shift_outcome (shift.Neg name r t) x u e }
+fn negated(name: SignName, r: u8, x: u32, e: Effect) -> Outcome
+    ensures { (t u : ℕ) → result ≡ shift_outcome (shift.Sign name r t) x u e }
 {
     match name {
-        NegName::Neg => puts(r, neg(x), e),
-        NegName::Abs => puts(r, abs(x), e),
+        SignName::Neg => puts(r, neg(x), e),
+        SignName::Abs => puts(r, abs(x), e),
     }
 }
 
 #[tactic(auto, unfolding(crate::specs::Outcomes::shift_outcome))]
 #[inline(always)]
-fn shifted_right(name: SrlName, r: u8, x: u32, sar: u8, e: Effect) -> Outcome
+fn shifted_right(name: ShiftRightName, r: u8, x: u32, sar: u8, e: Effect) -> Outcome
     requires { sar < 64 }
-    ensures { (t : ℕ) → result ≡ shift_outcome (shift.Srl name r t) x sar e }
+    ensures { (t : ℕ) → result ≡ shift_outcome (shift.ShiftRight name r t) x sar e }
 {
     match name {
-        SrlName::Srl => puts(r, srl(x, sar), e),
-        SrlName::Sra => puts(r, sra(x, sar), e),
+        ShiftRightName::Srl => puts(r, srl(x, sar), e),
+        ShiftRightName::Sra => puts(r, sra(x, sar), e),
     }
 }
 
 #[tactic(auto, unfolding(crate::specs::Outcomes::shift_outcome))]
 #[inline(always)]
-fn sign_extended(name: SextName, r: u8, x: u32, b: i32, e: Effect) -> Outcome
+fn sign_extended(name: SignedName, r: u8, x: u32, b: i32, e: Effect) -> Outcome
     requires { natural_within 7 22 b ≡ true }
-    ensures { (s u : ℕ) → result ≡ shift_outcome (shift.Sext name r s b) x u e }
+    ensures { (s u : ℕ) → result ≡ shift_outcome (shift.Signed name r s b) x u e }
 {
     match name {
-        SextName::Sext => puts(r, sext(x, within(b, 7, 22)), e),
-        SextName::Clamps => puts(r, clamps(x, within(b, 7, 22)), e),
+        SignedName::Sext => puts(r, sext(x, within(b, 7, 22)), e),
+        SignedName::Clamps => puts(r, clamps(x, within(b, 7, 22)), e),
     }
 }
 
 #[tactic(auto, unfolding(crate::specs::Outcomes::shift_outcome))]
 #[inline(always)]
-fn leading_bits(name: NsaName, t: u8, x: u32, e: Effect) -> Outcome
-    ensures { (s u : ℕ) → result ≡ shift_outcome (shift.Nsa name t s) x u e }
+fn leading_bits(name: NormalizeName, t: u8, x: u32, e: Effect) -> Outcome
+    ensures { (s u : ℕ) → result ≡ shift_outcome (shift.Normalize name t s) x u e }
 {
     match name {
-        NsaName::Nsa => puts(t, nsa(x), e),
-        NsaName::Nsau => puts(t, nsau(x), e),
+        NormalizeName::Nsa => puts(t, nsa(x), e),
+        NormalizeName::Nsau => puts(t, nsau(x), e),
     }
 }
 
 #[tactic(auto, unfolding(crate::specs::Outcomes::shift_outcome))]
 #[inline(always)]
-fn sets_amount(name: SsrName, x: u32, e: Effect) -> Outcome
-    ensures { (s u : ℕ) → result ≡ shift_outcome (shift.Ssr name s) x u e }
+fn sets_amount(name: AmountName, x: u32, e: Effect) -> Outcome
+    ensures { (s u : ℕ) → result ≡ shift_outcome (shift.Amount name s) x u e }
 {
     match name {
-        SsrName::Ssr => sets_sar(ssr(x) as u32, e),
-        SsrName::Ssl => sets_sar(ssl(x) as u32, e),
+        AmountName::Ssr => sets_sar(ssr(x) as u32, e),
+        AmountName::Ssl => sets_sar(ssl(x) as u32, e),
     }
 }
 
 #[tactic(auto, unfolding(crate::specs::Outcomes::shift_outcome))]
 #[inline(always)]
-fn sets_byte_amount(name: Ssa8Name, x: u32, e: Effect) -> Outcome
-    ensures { (s u : ℕ) → result ≡ shift_outcome (shift.Ssa8l name s) x u e }
+fn sets_byte_amount(name: ByteAmountName, x: u32, e: Effect) -> Outcome
+    ensures { (s u : ℕ) → result ≡ shift_outcome (shift.ByteAmount name s) x u e }
 {
     match name {
-        Ssa8Name::Ssa8l => sets_sar(ssa8l(x) as u32, e),
-        Ssa8Name::Ssa8b => sets_sar(ssa8b(x) as u32, e),
+        ByteAmountName::Ssa8l => sets_sar(ssa8l(x) as u32, e),
+        ByteAmountName::Ssa8b => sets_sar(ssa8b(x) as u32, e),
     }
 }
 
@@ -108,8 +110,8 @@ pub fn shift_outcome<U>(i: Shift, x: u32, u: u32, e: Effect) -> Outcome
     ensures { result ≡ shift_outcome i x u e }
 {
     match i {
-        Shift::Neg(name, r, _) => negated(name, r, x, e),
-        Shift::Srl(name, r, _) => shifted_right(name, r, x, u as u8, e),
+        Shift::Sign(name, r, _) => negated(name, r, x, e),
+        Shift::ShiftRight(name, r, _) => shifted_right(name, r, x, u as u8, e),
         Shift::Sll(r, _) => puts(r, sll(x, u as u8), e),
         Shift::Slli(r, _, n) => puts(r, slli(x, within(n, 1, 31)), e),
         Shift::Srai(r, _, n) => puts(r, srai(x, within(n, 0, 31)), e),
@@ -117,11 +119,11 @@ pub fn shift_outcome<U>(i: Shift, x: u32, u: u32, e: Effect) -> Outcome
         Shift::Extui(r, _, n, width) => {
             puts(r, extui(x, within(n, 0, 31), within(width, 1, 16)), e)
         }
-        Shift::Sext(name, r, _, b) => sign_extended(name, r, x, b, e),
-        Shift::Nsa(name, t, _) => leading_bits(name, t, x, e),
+        Shift::Signed(name, r, _, b) => sign_extended(name, r, x, b, e),
+        Shift::Normalize(name, t, _) => leading_bits(name, t, x, e),
         Shift::Movsp(t, _) => Outcome::Windowed(WindowStep::MovesStack(t, x)),
-        Shift::Ssr(name, _) => sets_amount(name, x, e),
-        Shift::Ssa8l(name, _) => sets_byte_amount(name, x, e),
+        Shift::Amount(name, _) => sets_amount(name, x, e),
+        Shift::ByteAmount(name, _) => sets_byte_amount(name, x, e),
         Shift::Ssai(n) => sets_sar(natural(n), e),
     }
 }

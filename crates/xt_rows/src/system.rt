@@ -10,14 +10,14 @@ use crate::numbers::natural;
 use crate::outcome::{Effect, Flow, Outcome, WindowStep};
 use crate::shift::within;
 use xt_isa::system::{
-    BreakName, LevelName, ReturnName, SpecialName, SyncName, System, UserName, WaitName,
+    ExceptionReturnName, LevelName, SpecialName, SyncName, System, TrapName, UserName, WaitName,
 };
 use xt_special::{Ps, ps_written, value_read, written_by};
 
 #[tactic(auto, unfolding(crate::specs::Outcomes::system_outcome))]
 #[inline(always)]
 fn synchronizes(name: SyncName, e: Effect) -> Outcome
-    ensures { (x u v : ℕ) → result ≡ system_outcome (system.Ill name) x u v e }
+    ensures { (x u v : ℕ) → result ≡ system_outcome (system.Sync name) x u v e }
 {
     match name {
         SyncName::Ill => Outcome::Raises(cause::ILLEGAL_INSTRUCTION, None),
@@ -28,7 +28,7 @@ fn synchronizes(name: SyncName, e: Effect) -> Outcome
 #[tactic(auto, unfolding(crate::specs::Outcomes::system_outcome))]
 #[inline(always)]
 fn waits_for(name: WaitName, e: Effect) -> Outcome
-    ensures { (x u v : ℕ) → result ≡ system_outcome (system.Excw name) x u v e }
+    ensures { (x u v : ℕ) → result ≡ system_outcome (system.Wait name) x u v e }
 {
     match name {
         WaitName::Excw | WaitName::Memw | WaitName::Extw | WaitName::Nop => Outcome::Does(e),
@@ -37,11 +37,11 @@ fn waits_for(name: WaitName, e: Effect) -> Outcome
 
 #[tactic(auto, unfolding(crate::specs::Outcomes::system_outcome))]
 #[inline(always)]
-fn returns_from_exception(name: ReturnName, u: u32, e: Effect) -> Outcome
-    ensures { (x v : ℕ) → result ≡ system_outcome (system.Rfe name) x u v e }
+fn returns_from_exception(name: ExceptionReturnName, u: u32, e: Effect) -> Outcome
+    ensures { (x v : ℕ) → result ≡ system_outcome (system.ExceptionReturn name) x u v e }
 {
     match name {
-        ReturnName::Rfe => Outcome::Does(Effect {
+        ExceptionReturnName::Rfe => Outcome::Does(Effect {
             ps: Ps {
                 excm: false,
                 ..e.ps
@@ -49,20 +49,21 @@ fn returns_from_exception(name: ReturnName, u: u32, e: Effect) -> Outcome
             flow: Flow::Goes(u),
             ..e
         }),
-        ReturnName::Rfde => goes(u, e),
-        ReturnName::Rfwo => Outcome::Windowed(WindowStep::EndsOverflow(u)),
-        ReturnName::Rfwu => Outcome::Windowed(WindowStep::EndsUnderflow(u)),
+        ExceptionReturnName::Rfde => goes(u, e),
+        ExceptionReturnName::Rfwo => Outcome::Windowed(WindowStep::EndsOverflow(u)),
+        ExceptionReturnName::Rfwu => Outcome::Windowed(WindowStep::EndsUnderflow(u)),
     }
 }
 
 #[tactic(auto, unfolding(crate::specs::Outcomes::system_outcome))]
 #[inline(always)]
-fn calls_outside(name: BreakName) -> Outcome
-    ensures { (level number : ℤ) (x u v : ℕ) (e : Effect) → result ≡ system_outcome (system.Break name level number) x u v e }
+fn calls_outside(name: TrapName) -> Outcome
+    ensures { (level number : ℤ) (x u v : ℕ) (e : Effect)
+        → result ≡ system_outcome (system.Trap name level number) x u v e }
 {
     match name {
-        BreakName::Break => Outcome::Stops,
-        BreakName::Syscall => Outcome::Raises(cause::SYSTEM_CALL, None),
+        TrapName::Break => Outcome::Stops,
+        TrapName::Syscall => Outcome::Raises(cause::SYSTEM_CALL, None),
     }
 }
 
@@ -71,7 +72,7 @@ fn calls_outside(name: BreakName) -> Outcome
 fn sets_level(name: LevelName, t: u8, level: i32, e: Effect) -> Outcome
     requires level { natural_within 0 15 level ≡ true }
     requires ps { IsPs e.ps }
-    ensures { (x u v : ℕ) → result ≡ system_outcome (system.Rsil name t level) x u v e }
+    ensures { (x u v : ℕ) → result ≡ system_outcome (system.Level name t level) x u v e }
 {
     let ps = Ps {
         intlevel: within(level, 0, 15),
@@ -95,7 +96,7 @@ fn sets_level(name: LevelName, t: u8, level: i32, e: Effect) -> Outcome
 #[inline(always)]
 fn reads_special(t: u8, n: u8, u: u32, e: Effect) -> Outcome
     requires { IsPs e.ps }
-    ensures { (x v : ℕ) → result ≡ system_outcome (system.Rsr SpecialName.Rsr t n) x u v e }
+    ensures { (x v : ℕ) → result ≡ system_outcome (system.Special SpecialName.Rsr t n) x u v e }
 {
     match window_register(n) {
         Some(register) => Outcome::Windowed(WindowStep::Reads(register, t)),
@@ -106,7 +107,7 @@ fn reads_special(t: u8, n: u8, u: u32, e: Effect) -> Outcome
 #[tactic(auto, unfolding(crate::specs::Outcomes::system_outcome))]
 #[inline(always)]
 fn writes_special(n: u8, x: u32, v: u32, e: Effect) -> Outcome
-    ensures { (t u : ℕ) → result ≡ system_outcome (system.Rsr SpecialName.Wsr t n) x u v e }
+    ensures { (t u : ℕ) → result ≡ system_outcome (system.Special SpecialName.Wsr t n) x u v e }
 {
     match window_register(n) {
         Some(register) => Outcome::Windowed(WindowStep::Sets(register, x)),
@@ -122,7 +123,7 @@ fn writes_special(n: u8, x: u32, v: u32, e: Effect) -> Outcome
 #[inline(always)]
 fn exchanges_special(t: u8, n: u8, x: u32, u: u32, v: u32, e: Effect) -> Outcome
     requires { IsPs e.ps }
-    ensures { result ≡ system_outcome (system.Rsr SpecialName.Xsr t n) x u v e }
+    ensures { result ≡ system_outcome (system.Special SpecialName.Xsr t n) x u v e }
 {
     match window_register(n) {
         Some(register) => Outcome::Windowed(WindowStep::Exchanges(register, t, x)),
@@ -138,7 +139,7 @@ fn exchanges_special(t: u8, n: u8, x: u32, u: u32, v: u32, e: Effect) -> Outcome
 #[inline(always)]
 fn special_access(name: SpecialName, t: u8, n: u8, x: u32, u: u32, v: u32, e: Effect) -> Outcome
     requires { IsPs e.ps }
-    ensures { result ≡ system_outcome (system.Rsr name t n) x u v e }
+    ensures { result ≡ system_outcome (system.Special name t n) x u v e }
 {
     match name {
         SpecialName::Rsr => reads_special(t, n, u, e),
@@ -150,7 +151,7 @@ fn special_access(name: SpecialName, t: u8, n: u8, x: u32, u: u32, v: u32, e: Ef
 #[tactic(auto, unfolding(crate::specs::Outcomes::system_outcome))]
 #[inline(always)]
 fn user_register(name: UserName, t: u8, x: u32, e: Effect) -> Outcome
-    ensures { (n u v : ℕ) → result ≡ system_outcome (system.Rur name t n) x u v e }
+    ensures { (n u v : ℕ) → result ≡ system_outcome (system.User name t n) x u v e }
 {
     match name {
         UserName::Rur => puts(t, e.threadptr, e),
@@ -168,18 +169,18 @@ pub fn system_outcome<U>(i: System, x: u32, u: u32, v: u32, e: Effect) -> Outcom
     ensures { result ≡ system_outcome i x u v e }
 {
     match i {
-        System::Ill(name) => synchronizes(name, e),
-        System::Excw(name) => waits_for(name, e),
-        System::Rfe(name) => returns_from_exception(name, u, e),
+        System::Sync(name) => synchronizes(name, e),
+        System::Wait(name) => waits_for(name, e),
+        System::ExceptionReturn(name) => returns_from_exception(name, u, e),
         System::Rfi(_) => Outcome::Does(Effect {
             ps: Ps::of_word(v),
             flow: Flow::Goes(u),
             ..e
         }),
-        System::Break(name, _, _) => calls_outside(name),
-        System::Rsil(name, t, level) => sets_level(name, t, level, e),
+        System::Trap(name, _, _) => calls_outside(name),
+        System::Level(name, t, level) => sets_level(name, t, level, e),
         System::Rotw(n) => Outcome::Windowed(WindowStep::Rotates(n)),
-        System::Rsr(name, t, n) => special_access(name, t, n, x, u, v, e),
-        System::Rur(name, t, _) => user_register(name, t, x, e),
+        System::Special(name, t, n) => special_access(name, t, n, x, u, v, e),
+        System::User(name, t, _) => user_register(name, t, x, e),
     }
 }

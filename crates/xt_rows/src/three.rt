@@ -6,7 +6,8 @@ use crate::cause;
 use crate::effects::{moves, puts};
 use crate::outcome::{Effect, Outcome};
 use xt_isa::three::{
-    AddName, AndName, DivideName, MinName, MoveName, Mul16Name, MulHighName, SubName, Three,
+    BitwiseName, DifferenceName, DivideName, MinMaxName, MoveName, Mul16Name, MulHighName, SumName,
+    Three,
 };
 use xt_word::arithmetic::{addx, bit_and, bit_or, bit_xor, max, maxu, min, minu, subx};
 use xt_word::conditions::{Cond, holds};
@@ -15,46 +16,46 @@ use xt_word::shifts::src;
 
 #[tactic(auto, unfolding(crate::specs::Outcomes::three_outcome))]
 #[inline(always)]
-fn bitwise(name: AndName, r: u8, x: u32, y: u32, e: Effect) -> Outcome
-    ensures { (s t u : ℕ) → result ≡ three_outcome (three.And name r s t) x y u e }
+fn bitwise(name: BitwiseName, r: u8, x: u32, y: u32, e: Effect) -> Outcome
+    ensures { (s t u : ℕ) → result ≡ three_outcome (three.Bitwise name r s t) x y u e }
 {
     match name {
-        AndName::And => puts(r, bit_and(x, y), e),
-        AndName::Or => puts(r, bit_or(x, y), e),
-        AndName::Xor => puts(r, bit_xor(x, y), e),
+        BitwiseName::And => puts(r, bit_and(x, y), e),
+        BitwiseName::Or => puts(r, bit_or(x, y), e),
+        BitwiseName::Xor => puts(r, bit_xor(x, y), e),
     }
 }
 
 #[tactic(auto, unfolding(crate::specs::Outcomes::three_outcome))]
 #[inline(always)]
-fn sum(name: AddName, r: u8, x: u32, y: u32, e: Effect) -> Outcome
-    ensures { (s t u : ℕ) → result ≡ three_outcome (three.Add name r s t) x y u e }
+fn sum(name: SumName, r: u8, x: u32, y: u32, e: Effect) -> Outcome
+    ensures { (s t u : ℕ) → result ≡ three_outcome (three.Sum name r s t) x y u e }
 {
     match name {
-        AddName::Add => puts(r, addx(x, y, 0), e),
-        AddName::Addx2 => puts(r, addx(x, y, 1), e),
-        AddName::Addx4 => puts(r, addx(x, y, 2), e),
-        AddName::Addx8 => puts(r, addx(x, y, 3), e),
+        SumName::Add => puts(r, addx(x, y, 0), e),
+        SumName::Addx2 => puts(r, addx(x, y, 1), e),
+        SumName::Addx4 => puts(r, addx(x, y, 2), e),
+        SumName::Addx8 => puts(r, addx(x, y, 3), e),
     }
 }
 
 #[tactic(auto, unfolding(crate::specs::Outcomes::three_outcome))]
 #[inline(always)]
-fn difference(name: SubName, r: u8, x: u32, y: u32, e: Effect) -> Outcome
-    ensures { (s t u : ℕ) → result ≡ three_outcome (three.Sub name r s t) x y u e }
+fn difference(name: DifferenceName, r: u8, x: u32, y: u32, e: Effect) -> Outcome
+    ensures { (s t u : ℕ) → result ≡ three_outcome (three.Difference name r s t) x y u e }
 {
     match name {
-        SubName::Sub => puts(r, subx(x, y, 0), e),
-        SubName::Subx2 => puts(r, subx(x, y, 1), e),
-        SubName::Subx4 => puts(r, subx(x, y, 2), e),
-        SubName::Subx8 => puts(r, subx(x, y, 3), e),
+        DifferenceName::Sub => puts(r, subx(x, y, 0), e),
+        DifferenceName::Subx2 => puts(r, subx(x, y, 1), e),
+        DifferenceName::Subx4 => puts(r, subx(x, y, 2), e),
+        DifferenceName::Subx8 => puts(r, subx(x, y, 3), e),
     }
 }
 
 #[tactic(auto, unfolding(crate::specs::Outcomes::three_outcome))]
 #[inline(always)]
 fn product_of_halves(name: Mul16Name, r: u8, x: u32, y: u32, e: Effect) -> Outcome
-    ensures { (s t u : ℕ) → result ≡ three_outcome (three.Mul16u name r s t) x y u e }
+    ensures { (s t u : ℕ) → result ≡ three_outcome (three.Mul16 name r s t) x y u e }
 {
     match name {
         Mul16Name::Mul16u => puts(r, mul16u(x, y), e),
@@ -65,7 +66,7 @@ fn product_of_halves(name: Mul16Name, r: u8, x: u32, y: u32, e: Effect) -> Outco
 #[tactic(auto, unfolding(crate::specs::Outcomes::three_outcome))]
 #[inline(always)]
 fn high_product(name: MulHighName, r: u8, x: u32, y: u32, e: Effect) -> Outcome
-    ensures { (s t u : ℕ) → result ≡ three_outcome (three.Muluh name r s t) x y u e }
+    ensures { (s t u : ℕ) → result ≡ three_outcome (three.MulHigh name r s t) x y u e }
 {
     match name {
         MulHighName::Muluh => puts(r, muluh(x, y), e),
@@ -76,7 +77,7 @@ fn high_product(name: MulHighName, r: u8, x: u32, y: u32, e: Effect) -> Outcome
 #[tactic(auto, unfolding(crate::specs::Outcomes::three_outcome))]
 #[inline(always)]
 fn quotient(name: DivideName, r: u8, x: u32, y: u32, e: Effect) -> Outcome
-    ensures { (s t u : ℕ) → result ≡ three_outcome (three.Quou name r s t) x y u e }
+    ensures { (s t u : ℕ) → result ≡ three_outcome (three.Divide name r s t) x y u e }
 {
     if y == 0 {
         return Outcome::Raises(cause::DIVIDE_BY_ZERO, None);
@@ -91,21 +92,21 @@ fn quotient(name: DivideName, r: u8, x: u32, y: u32, e: Effect) -> Outcome
 
 #[tactic(auto, unfolding(crate::specs::Outcomes::three_outcome))]
 #[inline(always)]
-fn least_or_greatest(name: MinName, r: u8, x: u32, y: u32, e: Effect) -> Outcome
-    ensures { (s t u : ℕ) → result ≡ three_outcome (three.Min name r s t) x y u e }
+fn least_or_greatest(name: MinMaxName, r: u8, x: u32, y: u32, e: Effect) -> Outcome
+    ensures { (s t u : ℕ) → result ≡ three_outcome (three.MinMax name r s t) x y u e }
 {
     match name {
-        MinName::Min => puts(r, min(x, y), e),
-        MinName::Max => puts(r, max(x, y), e),
-        MinName::Minu => puts(r, minu(x, y), e),
-        MinName::Maxu => puts(r, maxu(x, y), e),
+        MinMaxName::Min => puts(r, min(x, y), e),
+        MinMaxName::Max => puts(r, max(x, y), e),
+        MinMaxName::Minu => puts(r, minu(x, y), e),
+        MinMaxName::Maxu => puts(r, maxu(x, y), e),
     }
 }
 
 #[tactic(auto, unfolding(crate::specs::Outcomes::three_outcome))]
 #[inline(always)]
 fn conditional_move(name: MoveName, r: u8, x: u32, y: u32, e: Effect) -> Outcome
-    ensures { (s t u : ℕ) → result ≡ three_outcome (three.Moveqz name r s t) x y u e }
+    ensures { (s t u : ℕ) → result ≡ three_outcome (three.Move name r s t) x y u e }
 {
     match name {
         MoveName::Moveqz => moves(holds(Cond::Eq, y, 0), r, x, e),
@@ -123,15 +124,15 @@ pub fn three_outcome<U>(i: Three, x: u32, y: u32, u: u32, e: Effect) -> Outcome
     ensures { result ≡ three_outcome i x y u e }
 {
     match i {
-        Three::And(name, r, _, _) => bitwise(name, r, x, y, e),
-        Three::Add(name, r, _, _) => sum(name, r, x, y, e),
-        Three::Sub(name, r, _, _) => difference(name, r, x, y, e),
+        Three::Bitwise(name, r, _, _) => bitwise(name, r, x, y, e),
+        Three::Sum(name, r, _, _) => sum(name, r, x, y, e),
+        Three::Difference(name, r, _, _) => difference(name, r, x, y, e),
         Three::Src(r, _, _) => puts(r, src(x, y, u as u8), e),
-        Three::Mul16u(name, r, _, _) => product_of_halves(name, r, x, y, e),
+        Three::Mul16(name, r, _, _) => product_of_halves(name, r, x, y, e),
         Three::Mull(r, _, _) => puts(r, mull(x, y), e),
-        Three::Muluh(name, r, _, _) => high_product(name, r, x, y, e),
-        Three::Quou(name, r, _, _) => quotient(name, r, x, y, e),
-        Three::Min(name, r, _, _) => least_or_greatest(name, r, x, y, e),
-        Three::Moveqz(name, r, _, _) => conditional_move(name, r, x, y, e),
+        Three::MulHigh(name, r, _, _) => high_product(name, r, x, y, e),
+        Three::Divide(name, r, _, _) => quotient(name, r, x, y, e),
+        Three::MinMax(name, r, _, _) => least_or_greatest(name, r, x, y, e),
+        Three::Move(name, r, _, _) => conditional_move(name, r, x, y, e),
     }
 }

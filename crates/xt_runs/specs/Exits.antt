@@ -8,7 +8,7 @@ use Rattle.xt_word.specs.Hexadecimal.{hex8}
 use Rattle.xt_isa.specs.declared.Insn.{Insn}
 use Rattle.xt_isa.specs.declared.Insn.TheVariants as insn
 use Rattle.xt_isa.specs.declared.system.System.TheVariants as system
-use Rattle.xt_isa.specs.declared.system.BreakName.TheVariants as BreakName
+use Rattle.xt_isa.specs.declared.system.TrapName.TheVariants as TrapName
 use Rattle.xt_window.specs.Ring.{visible}
 use Rattle.xt_image.specs.declared.image.Image.{Image}
 use Rattle.xt_fetch.specs.Fetching.{Fetched, Fetches, fetch_at}
@@ -36,7 +36,7 @@ stop_line core = codes "core " ++ decimal core ++ codes " stop turns\n"
 
 -- `break 1, 15`
 unfoldable pub is_exit : Insn → Bool
-is_exit (insn.System (system.Break BreakName.Break level number)) =
+is_exit (insn.System (system.Trap TrapName.Break level number)) =
     natural level == 1 && natural number == 15
 is_exit _ = false
 

@@ -12,7 +12,7 @@ use std::alloc::{AllocError, Global};
 use xt_codec::{Fetch, instruction_at};
 use xt_image::{Image, well_formed_is_placed};
 use xt_isa::Insn;
-use xt_isa::system::{BreakName, System};
+use xt_isa::system::{System, TrapName};
 use xt_map::{Constants, Text};
 use xt_replay::State;
 use xt_rows::natural;
@@ -44,7 +44,7 @@ fn is_exit(i: Insn) -> bool
     ensures { result ≡ is_exit i }
 {
     match i {
-        Insn::System(System::Break(BreakName::Break, level, number)) => {
+        Insn::System(System::Trap(TrapName::Break, level, number)) => {
             natural(level) == 1 && natural(number) == 15
         }
         _ => false,

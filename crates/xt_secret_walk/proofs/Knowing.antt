@@ -11,12 +11,12 @@ use Rattle.xt_isa.specs.declared.three.Three.TheVariants as three
 use Rattle.xt_isa.specs.declared.shift.Shift.TheVariants as shift
 use Rattle.xt_isa.specs.declared.memory.Memory.TheVariants as memory
 use Rattle.xt_isa.specs.declared.control.Control.TheVariants as control
-use Rattle.xt_isa.specs.declared.control.RetName.TheVariants as RetName
+use Rattle.xt_isa.specs.declared.control.ReturnName.TheVariants as ReturnName
 use Rattle.xt_isa.specs.declared.density.Density.TheVariants as density
-use Rattle.xt_isa.specs.declared.density.NarrowRetName.TheVariants as NarrowRetName
+use Rattle.xt_isa.specs.declared.density.BareName.TheVariants as BareName
 use Rattle.xt_isa.specs.declared.system.System.{System}
 use Rattle.xt_isa.specs.declared.system.System.TheVariants as system
-use Rattle.xt_isa.specs.declared.system.ReturnName.TheVariants as ReturnName
+use Rattle.xt_isa.specs.declared.system.ExceptionReturnName.TheVariants as ExceptionReturnName
 use Rattle.xt_isa.specs.Ranges.{in_range, natural_within}
 use Rattle.xt_map.specs.declared.access.Access.{Access}
 use Rattle.xt_window.specs.Ring.{place}
@@ -100,23 +100,23 @@ module _ (c : CoreMasks) (s : State) where
 
   system_known : (i : System) → in_range (insn.System i) ≡ true → specials_used (insn.System i) (first_special (insn.System i) m s) (second_special (insn.System i) m s) ≡ true
   unfolding special_reads specials_used
-  system_known (system.Rsr name t n) ok = refl
+  system_known (system.Special name t n) ok = refl
   system_known (system.Rfi l) ok =
       let at = level_range l ok in
       let low = at.0 in
       let high = at.1 in
       both_known (Some (176 + natural l), Some (192 + natural l)) (level_plain 176 (natural l) low high (omega arith) (omega arith), level_plain 192 (natural l) low high (omega arith) (omega arith))
-  system_known (system.Rfe ReturnName.Rfe) ok = refl
-  system_known (system.Rfe ReturnName.Rfde) ok = refl
-  system_known (system.Rfe ReturnName.Rfwo) ok = refl
-  system_known (system.Rfe ReturnName.Rfwu) ok = refl
+  system_known (system.ExceptionReturn ExceptionReturnName.Rfe) ok = refl
+  system_known (system.ExceptionReturn ExceptionReturnName.Rfde) ok = refl
+  system_known (system.ExceptionReturn ExceptionReturnName.Rfwo) ok = refl
+  system_known (system.ExceptionReturn ExceptionReturnName.Rfwu) ok = refl
   system_known _ ok = refl
 
   specials_known : (i : Insn) → in_range i ≡ true → specials_used i (first_special i m s) (second_special i m s) ≡ true
   unfolding special_reads specials_used
   specials_known (insn.Three (three.Src r f t)) ok = refl
   specials_known (insn.Three _) ok = refl
-  specials_known (insn.Shift (shift.Srl name r t)) ok = refl
+  specials_known (insn.Shift (shift.ShiftRight name r t)) ok = refl
   specials_known (insn.Shift (shift.Sll r f)) ok = refl
   specials_known (insn.Shift _) ok = refl
   specials_known (insn.Memory (memory.S32c1i t f offset)) ok = refl
@@ -143,8 +143,8 @@ module _ (c : CoreMasks) (s : State) where
 
   return_is : (i : Insn) → (not (is_return i) || is_whole (first_word i m s)) ≡ window_used i m s
   unfolding is_return reads
-  return_is (insn.Control (control.Ret RetName.Retw)) = refl
-  return_is (insn.Density (density.Ret NarrowRetName.Retw)) = refl
+  return_is (insn.Control (control.Return ReturnName.Retw)) = refl
+  return_is (insn.Density (density.Bare BareName.Retw)) = refl
   return_is _ = refl
 
   kind_is : (k : StepKind) (f : Fetched) → IsGoodSeen (seen_of f m s) → seen_uses k (seen_of f m s) ≡ kind_used k f m s
@@ -296,8 +296,8 @@ whole_as w e = λ j. record { value = w.value; mask = e j }
 
 row_whole : (i : Insn) (a b : ℕ) → row_used i (whole_word a) (whole_word b) ≡ true
 unfolding row_used
-row_whole (insn.Three (three.Moveqz name r s t)) a b = refl
-row_whole (insn.Three (three.Quou name r s t)) a b = refl
+row_whole (insn.Three (three.Move name r s t)) a b = refl
+row_whole (insn.Three (three.Divide name r s t)) a b = refl
 row_whole (insn.Three i) a b = used_whole Lenient (insn.Three i) a b
 row_whole (insn.Shift i) a b = used_whole Lenient (insn.Shift i) a b
 row_whole (insn.Memory i) a b = used_whole Lenient (insn.Memory i) a b

@@ -211,9 +211,9 @@ impl CoreMasks {
         ensures threadptr { self.new.threadptr ≡ pointer_mask insn given self.old.threadptr }
     {
         match insn {
-            Insn::System(System::Rur(UserName::Wur, _, _)) => self.threadptr = given,
-            Insn::System(System::Rsr(SpecialName::Wsr, _, n)) => self.keep(n, given),
-            Insn::System(System::Rsr(SpecialName::Xsr, _, n)) => self.keep(n, given),
+            Insn::System(System::User(UserName::Wur, _, _)) => self.threadptr = given,
+            Insn::System(System::Special(SpecialName::Wsr, _, n)) => self.keep(n, given),
+            Insn::System(System::Special(SpecialName::Xsr, _, n)) => self.keep(n, given),
             _ => {}
         }
     }

@@ -53,8 +53,8 @@ fn row_used(insn: Insn, x: Word, y: Word) -> bool
     ensures { result ≡ row_used insn x y }
 {
     match insn {
-        Insn::Three(Three::Moveqz(_, _, _, _)) => true,
-        Insn::Three(Three::Quou(_, _, _, _)) => is_whole(x) && is_whole(y),
+        Insn::Three(Three::Move(_, _, _, _)) => true,
+        Insn::Three(Three::Divide(_, _, _, _)) => is_whole(x) && is_whole(y),
         _ => used_are_known(Discipline::Lenient, insn, x, y),
     }
 }
@@ -80,7 +80,7 @@ pub fn doubtful(insn: Insn, y: Word) -> Option<u8>
     ensures range { IsRegister result }
 {
     match insn {
-        Insn::Three(Three::Moveqz(_, r, _, _)) => {
+        Insn::Three(Three::Move(_, r, _, _)) => {
             if used_are_known(Discipline::Lenient, insn, y, y) {
                 None
             } else {

@@ -4,9 +4,9 @@ use Rattle.std.proofs.lemmas.Bool.{eqb-true, true≢false}
 use Rattle.xt_isa.specs.declared.Insn.{Insn}
 use Rattle.xt_isa.specs.declared.Insn.TheVariants as insn
 use Rattle.xt_isa.specs.declared.control.Control.TheVariants as control
-use Rattle.xt_isa.specs.declared.control.RetName.TheVariants as RetName
+use Rattle.xt_isa.specs.declared.control.ReturnName.TheVariants as ReturnName
 use Rattle.xt_isa.specs.declared.density.Density.TheVariants as density
-use Rattle.xt_isa.specs.declared.density.NarrowRetName.TheVariants as NarrowRetName
+use Rattle.xt_isa.specs.declared.density.BareName.TheVariants as BareName
 use Rattle.xt_isa.specs.declared.system.System.TheVariants as system
 use Rattle.xt_isa.specs.declared.system.SpecialName.TheVariants as SpecialName
 use Rattle.xt_isa.specs.declared.system.UserName.TheVariants as UserName
@@ -109,11 +109,11 @@ quiet (insn.Memory i) h = record { sure = λ y. refl; pointer = λ g p. refl; sp
 quiet (insn.Control i) h = record { sure = λ y. refl; pointer = λ g p. refl; special = λ g m. refl }
 quiet (insn.Density i) h = record { sure = λ y. refl; pointer = λ g p. refl; special = λ g m. refl }
 quiet (insn.Boolean i) h = record { sure = λ y. refl; pointer = λ g p. refl; special = λ g m. refl }
-quiet (insn.System (system.Rur UserName.Rur q n)) h = absurd (true≢false (sym h))
-quiet (insn.System (system.Rur UserName.Wur q n)) h = absurd (true≢false (sym h))
-quiet (insn.System (system.Rsr SpecialName.Rsr q n)) h = record { sure = λ y. refl; pointer = λ g p. refl; special = λ g m. refl }
-quiet (insn.System (system.Rsr SpecialName.Wsr q n)) h = record { sure = λ y. refl; pointer = λ g p. refl; special = λ g m. ap (λ (b : Bool). cond b (with_mask n g m) m) (window_unmarked_bit n h) }
-quiet (insn.System (system.Rsr SpecialName.Xsr q n)) h = record { sure = λ y. refl; pointer = λ g p. refl; special = λ g m. ap (λ (b : Bool). cond b (with_mask n g m) m) (window_unmarked_bit n h) }
+quiet (insn.System (system.User UserName.Rur q n)) h = absurd (true≢false (sym h))
+quiet (insn.System (system.User UserName.Wur q n)) h = absurd (true≢false (sym h))
+quiet (insn.System (system.Special SpecialName.Rsr q n)) h = record { sure = λ y. refl; pointer = λ g p. refl; special = λ g m. refl }
+quiet (insn.System (system.Special SpecialName.Wsr q n)) h = record { sure = λ y. refl; pointer = λ g p. refl; special = λ g m. ap (λ (b : Bool). cond b (with_mask n g m) m) (window_unmarked_bit n h) }
+quiet (insn.System (system.Special SpecialName.Xsr q n)) h = record { sure = λ y. refl; pointer = λ g p. refl; special = λ g m. ap (λ (b : Bool). cond b (with_mask n g m) m) (window_unmarked_bit n h) }
 quiet (insn.System i) h = record { sure = λ y. refl; pointer = λ g p. refl; special = λ g m. refl }
 
 one_of : (a b c d e : Bool) → (a ≡ true) ⊎ ((b ≡ true) ⊎ ((c ≡ true) ⊎ ((d ≡ true) ⊎ (e ≡ true)))) → (a || (b || (c || (d || e)))) ≡ true
@@ -127,7 +127,7 @@ one_of false false false false false h = absurd (⊎_elim (λ x. true≢false (s
 step_quiet : (i : Insn) (step : WindowStep) → FitsStep i step → Quiet i
 unfolding is_entry is_return
 step_quiet i (Enters number value) f = subst Quiet (sym f.1) (quiet (insn.Control (control.Entry number f.0)) refl)
-step_quiet i (Returns a0) f = ⊎_elim (λ e. subst Quiet (sym e) (quiet (insn.Control (control.Ret RetName.Retw)) refl)) (λ e. subst Quiet (sym e) (quiet (insn.Density (density.Ret NarrowRetName.Retw)) refl)) f
+step_quiet i (Returns a0) f = ⊎_elim (λ e. subst Quiet (sym e) (quiet (insn.Control (control.Return ReturnName.Retw)) refl)) (λ e. subst Quiet (sym e) (quiet (insn.Density (density.Bare BareName.Retw)) refl)) f
 step_quiet i (EndsOverflow epc1) f = quiet i (one_of (is_entry i) (is_return i) (is_movsp i) (is_windowing i) (names_window_register i) (inr (inr (inr (inl f)))))
 step_quiet i (EndsUnderflow epc1) f = quiet i (one_of (is_entry i) (is_return i) (is_movsp i) (is_windowing i) (names_window_register i) (inr (inr (inr (inl f)))))
 step_quiet i (Rotates n) f = quiet i (one_of (is_entry i) (is_return i) (is_movsp i) (is_windowing i) (names_window_register i) (inr (inr (inr (inl f)))))

@@ -124,7 +124,7 @@ module _ (code : ℕ → ℕ) (m : Knowledge) (s : State) (rs ys : List ℕ) (k 
 
   module _ (name : MoveName) (r p q : ℕ) where
     abbrev i : Insn
-    i = insn.Three (three.Moveqz name r p q)
+    i = insn.Three (three.Move name r p q)
 
     abbrev x : ℕ
     x = visible s.regs s.base p
@@ -140,7 +140,7 @@ module _ (code : ℕ → ℕ) (m : Knowledge) (s : State) (rs ys : List ℕ) (k 
     maybe false true = ((tt, (refl, refl)), record { sets = specials m s rs ys k h; ps = refl; threadptr = h.agree.threadptr; flow = refl; waits = refl })
     maybe false false = ((tt, tt), record { sets = specials m s rs ys k h; ps = refl; threadptr = h.agree.threadptr; flow = refl; waits = refl })
 
-    condition : (n : MoveName) (a b : Word) → three_used (three.Moveqz n r p q) b b ≡ three_used (three.Moveqz n r p q) a b
+    condition : (n : MoveName) (a b : Word) → three_used (three.Move n r p q) b b ≡ three_used (three.Move n r p q) a b
     unfolding three_used
     condition MoveName.Moveqz a b = refl
     condition MoveName.Movnez a b = refl
@@ -149,17 +149,17 @@ module _ (code : ℕ → ℕ) (m : Knowledge) (s : State) (rs ys : List ℕ) (k 
 
     move : row_used i (first_word i m s) (second_word i m s) ≡ true → in_range i ≡ true → Agreed i (one i) (two i)
     unfolding doubtful moved_to pointer_mask reads special_reads outcome three_outcome used_are_known
-    move free ok = by_test (three_used (three.Moveqz name r p q) (second_word i m s) (second_word i m s)) refl
+    move free ok = by_test (three_used (three.Move name r p q) (second_word i m s) (second_word i m s)) refl
       where
         by_name : (n : MoveName)
             → Outcomes (Made (Some r) (written_mask i all_bits m s) x y) (Sure (doubtful i (second_word i m s))) (second_word i m s).mask m.special m.threadptr s.control.special ys
-            (three_outcome (three.Moveqz n r p q) x (visible s.regs s.base q) 0 (no_change s.control.ps s.control.threadptr)) (three_outcome (three.Moveqz n r p q) y (visible rs s.base q) 0 (no_change s.control.ps k))
+            (three_outcome (three.Move n r p q) x (visible s.regs s.base q) 0 (no_change s.control.ps s.control.threadptr)) (three_outcome (three.Move n r p q) y (visible rs s.base q) 0 (no_change s.control.ps k))
         by_name MoveName.Moveqz = maybe (holds cond_of.Eq (visible s.regs s.base q) 0) (holds cond_of.Eq (visible rs s.base q) 0)
         by_name MoveName.Movnez = maybe (holds cond_of.Ne (visible s.regs s.base q) 0) (holds cond_of.Ne (visible rs s.base q) 0)
         by_name MoveName.Movltz = maybe (holds cond_of.Lt (visible s.regs s.base q) 0) (holds cond_of.Lt (visible rs s.base q) 0)
         by_name MoveName.Movgez = maybe (holds cond_of.Ge (visible s.regs s.base q) 0) (holds cond_of.Ge (visible rs s.base q) 0)
 
-        by_test : (b : Bool) → three_used (three.Moveqz name r p q) (second_word i m s) (second_word i m s) ≡ b
+        by_test : (b : Bool) → three_used (three.Move name r p q) (second_word i m s) (second_word i m s) ≡ b
             → Outcomes (Made (cond b None (Some r)) (written_mask i all_bits m s) x y) (Sure (doubtful i (second_word i m s))) (second_word i m s).mask m.special m.threadptr s.control.special ys (one i) (two i)
         by_test true e =
             subst (λ (o : Option ℕ). Outcomes (Made o (written_mask i all_bits m s) x y) (Sure (doubtful i (second_word i m s))) (second_word i m s).mask m.special m.threadptr s.control.special ys (one i) (two i)) (ap (λ (b : Bool). cond b None (Some r)) e)
@@ -230,18 +230,18 @@ module _ (code : ℕ → ℕ) (m : Knowledge) (s : State) (rs ys : List ℕ) (k 
         by_test true e = marked_ps n first s.control.ps e ∙ sym (marked_ps n second s.control.ps e)
         by_test false e = ap (λ (z : ℕ). ps_written n z s.control.ps) (unmarked e)
 
-    wsr : Agreed (insn.System (system.Rsr SpecialName.Wsr q n)) (one (insn.System (system.Rsr SpecialName.Wsr q n))) (two (insn.System (system.Rsr SpecialName.Wsr q n)))
+    wsr : Agreed (insn.System (system.Special SpecialName.Wsr q n)) (one (insn.System (system.Special SpecialName.Wsr q n))) (two (insn.System (system.Special SpecialName.Wsr q n)))
     unfolding doubtful moved_to pointer_mask reads special_reads outcome system_outcome
     wsr = by_register (window_register n) refl
       where
         by_register : (r : Option WindowRegister) → window_register n ≡ r
-            → Outcomes (Made None (written_mask (insn.System (system.Rsr SpecialName.Wsr q n)) all_bits m s) first second) (Sure None) all_bits after m.threadptr s.control.special ys
+            → Outcomes (Made None (written_mask (insn.System (system.Special SpecialName.Wsr q n)) all_bits m s) first second) (Sure None) all_bits after m.threadptr s.control.special ys
             (writes_special r n first was (no_change s.control.ps s.control.threadptr))
             (writes_special r n second had (no_change s.control.ps k))
         by_register None e = (tt, record { sets = written; ps = same_ps; threadptr = h.agree.threadptr; flow = refl; waits = refl })
         by_register (Some w) e = ap (λ (z : ℕ). Windowed (Sets w z)) (unmarked (window_unmarked n w e))
 
-    xsr : Agreed (insn.System (system.Rsr SpecialName.Xsr q n)) (one (insn.System (system.Rsr SpecialName.Xsr q n))) (two (insn.System (system.Rsr SpecialName.Xsr q n)))
+    xsr : Agreed (insn.System (system.Special SpecialName.Xsr q n)) (one (insn.System (system.Special SpecialName.Xsr q n))) (two (insn.System (system.Special SpecialName.Xsr q n)))
     unfolding doubtful moved_to pointer_mask reads special_reads outcome system_outcome result_mask system_mask
     xsr = by_register (window_register n) refl
       where
@@ -252,7 +252,7 @@ module _ (code : ℕ → ℕ) (m : Knowledge) (s : State) (rs ys : List ℕ) (k 
         by_register None e = ((refl, read_agrees n), record { sets = written; ps = same_ps; threadptr = h.agree.threadptr; flow = refl; waits = refl })
         by_register (Some w) e = ap (λ (z : ℕ). Windowed (Exchanges w q z)) (unmarked (window_unmarked n w e))
 
-  rsr : (q n : ℕ) → Agreed (insn.System (system.Rsr SpecialName.Rsr q n)) (one (insn.System (system.Rsr SpecialName.Rsr q n))) (two (insn.System (system.Rsr SpecialName.Rsr q n)))
+  rsr : (q n : ℕ) → Agreed (insn.System (system.Special SpecialName.Rsr q n)) (one (insn.System (system.Special SpecialName.Rsr q n))) (two (insn.System (system.Special SpecialName.Rsr q n)))
   unfolding doubtful moved_to pointer_mask reads special_reads outcome system_outcome result_mask system_mask
   rsr q n = by_register (window_register n)
     where
@@ -267,16 +267,16 @@ module _ (code : ℕ → ℕ) (m : Knowledge) (s : State) (rs ys : List ℕ) (k 
   system_rows : (i : System) → in_range (insn.System i) ≡ true → row_used (insn.System i) (first_word (insn.System i) m s) (second_word (insn.System i) m s) ≡ true
       → specials_used (insn.System i) (first_special (insn.System i) m s) (second_special (insn.System i) m s) ≡ true → Agreed (insn.System i) (one (insn.System i)) (two (insn.System i))
   unfolding row_used specials_used doubtful moved_to used_are_known system_used reads
-  system_rows (system.Rsr SpecialName.Rsr q n) ok used whole = rsr q n
-  system_rows (system.Rsr SpecialName.Wsr q n) ok used whole = wsr q n used
-  system_rows (system.Rsr SpecialName.Xsr q n) ok used whole = xsr q n used
+  system_rows (system.Special SpecialName.Rsr q n) ok used whole = rsr q n
+  system_rows (system.Special SpecialName.Wsr q n) ok used whole = wsr q n used
+  system_rows (system.Special SpecialName.Xsr q n) ok used whole = xsr q n used
   system_rows i ok used whole = plain (insn.System i) ok refl refl used whole
 
   three_rows : (i : Three) → in_range (insn.Three i) ≡ true → row_used (insn.Three i) (first_word (insn.Three i) m s) (second_word (insn.Three i) m s) ≡ true
       → specials_used (insn.Three i) (first_special (insn.Three i) m s) (second_special (insn.Three i) m s) ≡ true → Agreed (insn.Three i) (one (insn.Three i)) (two (insn.Three i))
   unfolding row_used specials_used doubtful moved_to used_are_known three_used
-  three_rows (three.Quou name r p q) ok used whole = plain (insn.Three (three.Quou name r p q)) ok refl refl (and_parts _ _ used).1 whole
-  three_rows (three.Moveqz name r p q) ok used whole = move name r p q used ok
+  three_rows (three.Divide name r p q) ok used whole = plain (insn.Three (three.Divide name r p q)) ok refl refl (and_parts _ _ used).1 whole
+  three_rows (three.Move name r p q) ok used whole = move name r p q used ok
   three_rows i ok used whole = plain (insn.Three i) ok refl refl used whole
 
   by_insn : (i : Insn) → in_range i ≡ true → row_used i (first_word i m s) (second_word i m s) ≡ true → specials_used i (first_special i m s) (second_special i m s) ≡ true → Agreed i (one i) (two i)

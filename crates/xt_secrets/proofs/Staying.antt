@@ -91,7 +91,7 @@ given_apart (Some r) given m n apart = by_test (holds_marks r.1) refl
 
 pointer_word : (i : Insn) (given pointer : ℕ) → given < 2 ^ 32 → pointer < 2 ^ 32 → pointer_mask i given pointer < 2 ^ 32
 unfolding pointer_mask
-pointer_word (insn.System (system.Rur UserName.Wur t n)) given pointer p q = p
+pointer_word (insn.System (system.User UserName.Wur t n)) given pointer p q = p
 pointer_word _ given pointer p q = q
 
 module _ (m : Knowledge) (masks : AreMasks m) (s : State) where

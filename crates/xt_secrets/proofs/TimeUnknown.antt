@@ -15,7 +15,7 @@ use Rattle.xt_isa.specs.declared.memory.Memory.{Memory}
 use Rattle.xt_isa.specs.declared.memory.Memory.TheVariants as memory
 use Rattle.xt_isa.specs.declared.system.System.{System}
 use Rattle.xt_isa.specs.declared.system.System.TheVariants as system
-use Rattle.xt_isa.specs.declared.system.ReturnName.TheVariants as ReturnName
+use Rattle.xt_isa.specs.declared.system.ExceptionReturnName.TheVariants as ExceptionReturnName
 use Rattle.xt_isa.specs.declared.system.SpecialName.TheVariants as SpecialName
 use Rattle.xt_isa.specs.declared.system.UserName.TheVariants as UserName
 use Rattle.xt_isa.specs.Ranges.{in_range}
@@ -209,8 +209,8 @@ module _ (s : State) where
 
   row_whole : (i : Insn) (a b : ℕ) → row_used i (whole_word a) (whole_word b) ≡ true
   unfolding row_used
-  row_whole (insn.Three (three.Moveqz name r p q)) a b = refl
-  row_whole (insn.Three (three.Quou name r p q)) a b = refl
+  row_whole (insn.Three (three.Move name r p q)) a b = refl
+  row_whole (insn.Three (three.Divide name r p q)) a b = refl
   row_whole i a b = used_whole Lenient i a b
 
   row_known : (i : Insn) → row_used i (first_word i all_but_time s) (second_word i all_but_time s) ≡ true
@@ -222,16 +222,16 @@ module _ (s : State) where
   system_known : (i : System) → in_range (insn.System i) ≡ true
       → specials_used (insn.System i) (special_word all_but_time s (system_special_reads i).0) (special_word all_but_time s (system_special_reads i).1) ≡ true
   unfolding specials_used
-  system_known (system.Rsr name t n) ok = refl
+  system_known (system.Special name t n) ok = refl
   system_known (system.Rfi level) ok =
       let small : natural level ≤ 7 = at_most 2 7 level ok in
       let a = special_whole (176 + natural level) (low (176 + natural level) (omega arith)) in
       let b = special_whole (192 + natural level) (low (192 + natural level) (omega arith)) in
       λ j. both_whole (a.1 j) (b.1 j)
-  system_known (system.Rfe ReturnName.Rfe) ok = refl
-  system_known (system.Rfe ReturnName.Rfde) ok = refl
-  system_known (system.Rfe ReturnName.Rfwo) ok = refl
-  system_known (system.Rfe ReturnName.Rfwu) ok = refl
+  system_known (system.ExceptionReturn ExceptionReturnName.Rfe) ok = refl
+  system_known (system.ExceptionReturn ExceptionReturnName.Rfde) ok = refl
+  system_known (system.ExceptionReturn ExceptionReturnName.Rfwo) ok = refl
+  system_known (system.ExceptionReturn ExceptionReturnName.Rfwu) ok = refl
   system_known _ ok = refl
 
   three_known : (i : Three) → specials_used (insn.Three i) (special_word all_but_time s (three_special_reads i).0) (special_word all_but_time s (three_special_reads i).1) ≡ true
@@ -241,7 +241,7 @@ module _ (s : State) where
 
   shift_known : (i : Shift) → specials_used (insn.Shift i) (special_word all_but_time s (shift_special_reads i).0) (special_word all_but_time s (shift_special_reads i).1) ≡ true
   unfolding specials_used
-  shift_known (shift.Srl name r t) = refl
+  shift_known (shift.ShiftRight name r t) = refl
   shift_known (shift.Sll r p) = refl
   shift_known _ = refl
 
@@ -329,14 +329,14 @@ module _ (s : State) where
   Known o = IsWholeWord (special_word all_but_time s o)
 
   system_first : (i : System) → in_range (insn.System i) ≡ true → reads_time (insn.System i) ≡ false → Known (system_special_reads i).0
-  system_first (system.Rsr SpecialName.Rsr t n) ok h = special_whole n h
-  system_first (system.Rsr SpecialName.Wsr t n) ok h = (0, refl)
-  system_first (system.Rsr SpecialName.Xsr t n) ok h = special_whole n h
+  system_first (system.Special SpecialName.Rsr t n) ok h = special_whole n h
+  system_first (system.Special SpecialName.Wsr t n) ok h = (0, refl)
+  system_first (system.Special SpecialName.Xsr t n) ok h = special_whole n h
   system_first (system.Rfi level) ok h = let small : natural level ≤ 7 = at_most 2 7 level ok in special_whole (176 + natural level) (low (176 + natural level) (omega arith))
-  system_first (system.Rfe ReturnName.Rfe) ok h = special_whole 177 refl
-  system_first (system.Rfe ReturnName.Rfde) ok h = special_whole 192 refl
-  system_first (system.Rfe ReturnName.Rfwo) ok h = special_whole 177 refl
-  system_first (system.Rfe ReturnName.Rfwu) ok h = special_whole 177 refl
+  system_first (system.ExceptionReturn ExceptionReturnName.Rfe) ok h = special_whole 177 refl
+  system_first (system.ExceptionReturn ExceptionReturnName.Rfde) ok h = special_whole 192 refl
+  system_first (system.ExceptionReturn ExceptionReturnName.Rfwo) ok h = special_whole 177 refl
+  system_first (system.ExceptionReturn ExceptionReturnName.Rfwu) ok h = special_whole 177 refl
   system_first _ ok h = (0, refl)
 
   three_first : (i : Three) → Known (three_special_reads i).0
@@ -344,7 +344,7 @@ module _ (s : State) where
   three_first _ = (0, refl)
 
   shift_first : (i : Shift) → Known (shift_special_reads i).0
-  shift_first (shift.Srl name r t) = special_whole 3 refl
+  shift_first (shift.ShiftRight name r t) = special_whole 3 refl
   shift_first (shift.Sll r p) = special_whole 3 refl
   shift_first _ = (0, refl)
 
@@ -364,7 +364,7 @@ module _ (s : State) where
 
   doubts_none : (i : Insn) (a : ℕ) → doubtful i (whole_word a) ≡ None
   unfolding doubtful used_are_known
-  doubts_none (insn.Three (three.Moveqz name r p q)) a = ap (λ (b : Bool). cond b None (Some r)) (used_whole Lenient (insn.Three (three.Moveqz name r p q)) a a)
+  doubts_none (insn.Three (three.Move name r p q)) a = ap (λ (b : Bool). cond b None (Some r)) (used_whole Lenient (insn.Three (three.Move name r p q)) a a)
   doubts_none _ a = refl
 
   sure : (i : Insn) → doubtful i (second_word i all_but_time s) ≡ None
@@ -420,7 +420,7 @@ ticked_same = by_register (λ n. ticked_masks timeless_mask n ≡ timeless_mask 
 
 pointer_known : (i : Insn) (given : ℕ) → given ≡ all_bits → pointer_mask i given all_bits ≡ all_bits
 unfolding pointer_mask
-pointer_known (insn.System (system.Rur UserName.Wur t n)) given e = e
+pointer_known (insn.System (system.User UserName.Wur t n)) given e = e
 pointer_known _ given e = refl
 
 -- all but time is known again

@@ -4,9 +4,9 @@ use Rattle.std.proofs.lemmas.Bool.{and_parts, true≢false}
 use Rattle.xt_isa.specs.declared.Insn.{Insn}
 use Rattle.xt_isa.specs.declared.Insn.TheVariants as insn
 use Rattle.xt_isa.specs.declared.control.Control.TheVariants as control
-use Rattle.xt_isa.specs.declared.control.RetName.TheVariants as RetName
+use Rattle.xt_isa.specs.declared.control.ReturnName.TheVariants as ReturnName
 use Rattle.xt_isa.specs.declared.density.Density.TheVariants as density
-use Rattle.xt_isa.specs.declared.density.NarrowRetName.TheVariants as NarrowRetName
+use Rattle.xt_isa.specs.declared.density.BareName.TheVariants as BareName
 use Rattle.xt_isa.specs.Ranges.{in_range}
 use Rattle.xt_special.specs.declared.ps.Ps.{Ps}
 use Rattle.xt_special.specs.Control.{special_of}
@@ -148,8 +148,8 @@ plain_used kind.Stop i len m s p h = h
 -- RETW uses a0, whatever it comes to
 return_row : (i : Insn) (m : Knowledge) (s : State) → is_return i ≡ true → (row_used i (first_word i m s) (second_word i m s) ≡ is_whole (register_word m s (Some 0))) × (specials_used i (first_special i m s) (second_special i m s) ≡ true)
 unfolding is_return row_used used_are_known control_used density_used specials_used reads special_reads
-return_row (insn.Control (control.Ret RetName.Retw)) m s h = (refl, refl)
-return_row (insn.Density (density.Ret NarrowRetName.Retw)) m s h = (refl, refl)
+return_row (insn.Control (control.Return ReturnName.Retw)) m s h = (refl, refl)
+return_row (insn.Density (density.Bare BareName.Retw)) m s h = (refl, refl)
 return_row _ m s h = absurd (true≢false (sym h))
 
 return_used : (i : Insn) (m : Knowledge) (s : State) → is_return i ≡ true → is_whole (register_word m s (Some 0)) ≡ true → insn_used i m s ≡ true
@@ -219,8 +219,8 @@ module _ (code : ℕ → ℕ) (bytes : AreBytes code) (m : Knowledge) (s : State
   illegal_same : (i : Insn) → (is_return i ≡ true → visible s.regs s.base 0 ≡ visible rs s.base 0) → is_illegal i s ≡ is_illegal i t
   unfolding is_illegal is_return
   illegal_same (insn.Control (control.Entry number size)) e = refl
-  illegal_same (insn.Control (control.Ret RetName.Retw)) e = ap (λ (a0 : ℕ). is_bad s.start s.base (return_size a0) || not (has_windows s.control.ps)) (e refl)
-  illegal_same (insn.Density (density.Ret NarrowRetName.Retw)) e = ap (λ (a0 : ℕ). is_bad s.start s.base (return_size a0) || not (has_windows s.control.ps)) (e refl)
+  illegal_same (insn.Control (control.Return ReturnName.Retw)) e = ap (λ (a0 : ℕ). is_bad s.start s.base (return_size a0) || not (has_windows s.control.ps)) (e refl)
+  illegal_same (insn.Density (density.Bare BareName.Retw)) e = ap (λ (a0 : ℕ). is_bad s.start s.base (return_size a0) || not (has_windows s.control.ps)) (e refl)
   illegal_same _ e = refl
 
   abbrev Agree : Option Insn → Planned → Planned → Type 0

@@ -40,8 +40,8 @@ with_mask k mask masks n = if n == k then mask else masks n
 
 -- the register of a conditional move whose condition, the word y, is not known
 unfoldable pub doubtful : Insn → Word → Option ℕ
-doubtful (insn.Three (three.Moveqz name r s t)) y =
-    if three_used (three.Moveqz name r s t) y y then None else Some r
+doubtful (insn.Three (three.Move name r s t)) y =
+    if three_used (three.Move name r s t) y y then None else Some r
 doubtful i y = None
 
 -- the bits that both words know, and that are equal

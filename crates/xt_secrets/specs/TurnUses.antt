@@ -34,13 +34,13 @@ use Rattle.xt_secrets.specs.Knowledge.{second_word, first_special, second_specia
 -- special registers
 
 unfoldable pub row_used : Insn → Word → Word → Bool
-row_used (insn.Three (three.Moveqz name r s t)) x y = true
-row_used (insn.Three (three.Quou name r s t)) x y = both_whole x y
+row_used (insn.Three (three.Move name r s t)) x y = true
+row_used (insn.Three (three.Divide name r s t)) x y = both_whole x y
 row_used i x y = used_are_known Lenient i x y
 
 -- RSR, WSR and XSR copy a special register; every other row uses what it reads of them
 unfoldable pub specials_used : Insn → Word → Word → Bool
-specials_used (insn.System (system.Rsr name t n)) u v = true
+specials_used (insn.System (system.Special name t n)) u v = true
 specials_used i u v = both_whole u v
 
 abbrev pub insn_used : Insn → Knowledge → State → Bool

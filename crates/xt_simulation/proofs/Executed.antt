@@ -4,9 +4,9 @@ use Rattle.std.proofs.lemmas.Bool.{eqb-false, cases_Bool, true≢false, both_way
 use Rattle.xt_isa.specs.declared.Insn.{Insn}
 use Rattle.xt_isa.specs.declared.Insn.TheVariants as insn
 use Rattle.xt_isa.specs.declared.control.Control.TheVariants as control
-use Rattle.xt_isa.specs.declared.control.RetName.TheVariants as RetName
+use Rattle.xt_isa.specs.declared.control.ReturnName.TheVariants as ReturnName
 use Rattle.xt_isa.specs.declared.density.Density.TheVariants as density
-use Rattle.xt_isa.specs.declared.density.NarrowRetName.TheVariants as NarrowRetName
+use Rattle.xt_isa.specs.declared.density.BareName.TheVariants as BareName
 use Rattle.xt_isa.specs.Ranges.{in_range}
 use Rattle.xt_map.specs.declared.access.Access.{Access}
 use Rattle.xt_special.specs.Control.{Control}
@@ -82,10 +82,10 @@ module _ {b : Bounds} {fresh : Bool} {live stale : ℕ → Bool} {rec : StepReco
   not_excm c = ⊎_elim
       (λ r. ⊎_elim
       (λ e.
-      let q : is_illegal (insn.Control (control.Ret RetName.Retw)) s ≡ false = rw e at legal in
+      let q : is_illegal (insn.Control (control.Return ReturnName.Retw)) s ≡ false = rw e at legal in
       may s.control.ps (or_parts _ (not (has_windows s.control.ps)) q).1)
       (λ e.
-      let q : is_illegal (insn.Density (density.Ret NarrowRetName.Retw)) s ≡ false = rw e at legal in
+      let q : is_illegal (insn.Density (density.Bare BareName.Retw)) s ≡ false = rw e at legal in
       may s.control.ps (or_parts _ (not (has_windows s.control.ps)) q).1)
       r)
       (λ e.

@@ -5,7 +5,7 @@ use Rattle.std.proofs.lemmas.Bool.{cases_Bool, cases_lt, or_parts, or_from, or_l
 use Rattle.xt_isa.specs.declared.Insn.{Insn}
 use Rattle.xt_isa.specs.declared.Insn.TheVariants as insn
 use Rattle.xt_isa.specs.declared.system.System.TheVariants as system
-use Rattle.xt_isa.specs.declared.system.ReturnName.TheVariants as return
+use Rattle.xt_isa.specs.declared.system.ExceptionReturnName.TheVariants as return
 use Rattle.xt_isa.specs.Ranges.{in_range}
 use Rattle.xt_isa.specs.Spelling.{spelled_insn, fields_at, length_of}
 use Rattle.xt_isa.proofs.Ranged.{spelled_at_in_range}
@@ -101,7 +101,7 @@ two_sides : (side : Side) → side ≡ Overflow → side ≡ Underflow → ⊥
 two_sides side o u = let q : Overflow ≡ Underflow = sym o ∙ u in absurd cc
 
 -- ---- endings
-is_rfwo : {i : Insn} {step : HandlerInsn} → Shown i step → step ≡ Rfwo → i ≡ insn.System (system.Rfe return.Rfwo)
+is_rfwo : {i : Insn} {step : HandlerInsn} → Shown i step → step ≡ Rfwo → i ≡ insn.System (system.ExceptionReturn return.Rfwo)
 is_rfwo load e = absurd cc
 is_rfwo store e = absurd cc
 is_rfwo wide_nop e = absurd cc
@@ -110,7 +110,7 @@ is_rfwo ends_overflow e = refl
 is_rfwo ends_underflow e = absurd cc
 is_rfwo other e = absurd cc
 
-is_rfwu : {i : Insn} {step : HandlerInsn} → Shown i step → step ≡ Rfwu → i ≡ insn.System (system.Rfe return.Rfwu)
+is_rfwu : {i : Insn} {step : HandlerInsn} → Shown i step → step ≡ Rfwu → i ≡ insn.System (system.ExceptionReturn return.Rfwu)
 is_rfwu load e = absurd cc
 is_rfwu store e = absurd cc
 is_rfwu wide_nop e = absurd cc
@@ -592,11 +592,11 @@ module _ (code : ℕ → ℕ) (constant : (a : ℕ) → code a < 2 ^ 8) (b : Bou
       closes_at : (i : Insn) → fetch_at code s.control.pc ≡ Fetches i len → (planned_turn code s).kind ≡ kind.Insn → ends_stretch i ≡ true → closes code (planned_turn code s).kind s.control.pc ≡ true
       closes_at i at k e = ap (λ k. closes code k s.control.pc) k ∙ (ap fetched_ends at ∙ e)
 
-      rfwo_closes : (i : Insn) → i ≡ insn.System (system.Rfe return.Rfwo) → ends_stretch i ≡ true
+      rfwo_closes : (i : Insn) → i ≡ insn.System (system.ExceptionReturn return.Rfwo) → ends_stretch i ≡ true
       unfolding ends_stretch
       rfwo_closes i e = rw e refl
 
-      rfwu_closes : (i : Insn) → i ≡ insn.System (system.Rfe return.Rfwu) → ends_stretch i ≡ true
+      rfwu_closes : (i : Insn) → i ≡ insn.System (system.ExceptionReturn return.Rfwu) → ends_stretch i ≡ true
       unfolding ends_stretch
       rfwu_closes i e = rw e refl
 

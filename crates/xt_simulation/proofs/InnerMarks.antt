@@ -113,13 +113,13 @@ abbrev pub sets_one : ℕ → ℕ → SpecialWrites
 sets_one n v = (set_to n v, no_set, no_set)
 
 module _ (code : ℕ → ℕ) (t n : ℕ) (holds : holds_marks n ≡ true) (regs : ℕ → ℕ) (c : Control) where
-  rsr_is : outcome_at code (insn.System (system.Rsr SpecialName.Rsr t n)) regs c ≡ Does (moving (write_to t (special_of c n)) no_sets c)
+  rsr_is : outcome_at code (insn.System (system.Special SpecialName.Rsr t n)) regs c ≡ Does (moving (write_to t (special_of c n)) no_sets c)
   unfolding outcome system_outcome reads special_reads
   rsr_is =
       ap (λ (w : Option WindowRegister). reads_special w t n (special_of c n) (no_change c.ps c.threadptr)) (no_window n holds)
       ∙ ap (λ v. Does (moving (write_to t v) no_sets c)) (read_whole n holds (special_of c n) c.ps)
 
-  wsr_is : outcome_at code (insn.System (system.Rsr SpecialName.Wsr t n)) regs c ≡ Does (moving None (sets_one n (regs t)) c)
+  wsr_is : outcome_at code (insn.System (system.Special SpecialName.Wsr t n)) regs c ≡ Does (moving None (sets_one n (regs t)) c)
   unfolding outcome system_outcome reads special_reads
   wsr_is =
       let v : ℕ = value_of (special_of c) (changes_interrupt n) in
@@ -127,7 +127,7 @@ module _ (code : ℕ → ℕ) (t n : ℕ) (holds : holds_marks n ≡ true) (regs
       ∙ (ap (λ z. (let e : Effect = record (no_change c.ps c.threadptr) { sets = z; ps = ps_written n (regs t) c.ps } in Does e)) (written_whole n holds (regs t) v)
       ∙ ap (λ p. (let e : Effect = record (no_change c.ps c.threadptr) { sets = sets_one n (regs t); ps = p } in Does e)) (ps_whole n holds (regs t) c.ps))
 
-  xsr_is : outcome_at code (insn.System (system.Rsr SpecialName.Xsr t n)) regs c ≡ Does (moving (write_to t (special_of c n)) (sets_one n (regs t)) c)
+  xsr_is : outcome_at code (insn.System (system.Special SpecialName.Xsr t n)) regs c ≡ Does (moving (write_to t (special_of c n)) (sets_one n (regs t)) c)
   unfolding outcome system_outcome reads special_reads
   xsr_is =
       let v : ℕ = value_of (special_of c) (changes_interrupt n) in
@@ -520,32 +520,32 @@ module _ (code : ℕ → ℕ) (b : Bounds) (m : MemoryContents) (s : State) (f :
     specials_set told =
         specials_moved specials_now n holds (visible s.regs s.base t) (value_or_zero x.seen t) moved_mark (read_register t told) (λ k e. (h.marks t k e).0)
 
-    rsr_inside : (let i = insn.System (system.Rsr SpecialName.Rsr t n) in
+    rsr_inside : (let i = insn.System (system.Special SpecialName.Rsr t n) in
         IsWritable t → reads_no_mark i x (nested_view x f) ≡ false → IsPlanned i → special_of (laid_turn i).after.control number.vecbase ≡ b.vecbase → IsLeft i)
     unfolding reads special_reads ends_nested mark_read moved_to
     rsr_inside writable told plan vectors =
         let parts = or_parts (lacks x.seen None && lacks x.marks None) (is_unset f.unset (Some n) && lacks x.saved (Some n)) told in
-        closing (insn.System (system.Rsr SpecialName.Rsr t n)) (write_to t (special_of s.control n)) (write_to t (special_of g.control n)) no_sets no_sets read_mark f.unset x.saved
+        closing (insn.System (system.Special SpecialName.Rsr t n)) (write_to t (special_of s.control n)) (write_to t (special_of g.control n)) no_sets no_sets read_mark f.unset x.saved
         plan vectors (rsr_is code t n holds (visible s.regs s.base) s.control) (rsr_is code t n holds (value_or_zero x.seen) g.control) (λ value. refl)
         (registers_read writable parts.1) specials_now none_spares none_spares
         (λ o is. write_alike read_mark t (special_of s.control n) (special_of g.control n) o is (read_special n holds parts.1))
 
-    wsr_inside : (let i = insn.System (system.Rsr SpecialName.Wsr t n) in
+    wsr_inside : (let i = insn.System (system.Special SpecialName.Wsr t n) in
         reads_no_mark i x (nested_view x f) ≡ false → IsPlanned i → special_of (laid_turn i).after.control number.vecbase ≡ b.vecbase → IsLeft i)
     unfolding reads special_reads ends_nested mark_read moved_to
     wsr_inside told plan vectors =
         let parts = or_parts (lacks x.seen (Some t) && lacks x.marks (Some t)) (is_unset f.unset None && lacks x.saved None) told in
-        closing (insn.System (system.Rsr SpecialName.Wsr t n)) None None (sets_one n (visible s.regs s.base t)) (sets_one n (value_or_zero x.seen t)) None (set f.unset n (is_some moved_mark)) (set x.saved n moved_mark)
+        closing (insn.System (system.Special SpecialName.Wsr t n)) None None (sets_one n (visible s.regs s.base t)) (sets_one n (value_or_zero x.seen t)) None (set f.unset n (is_some moved_mark)) (set x.saved n moved_mark)
         plan vectors (wsr_is code t n holds (visible s.regs s.base) s.control) (wsr_is code t n holds (value_or_zero x.seen) g.control) (λ value. refl)
         registers_now (specials_set parts.0) (one_spares n (visible s.regs s.base t) holds) (one_spares n (value_or_zero x.seen t) holds)
         (λ o is. is)
 
-    xsr_inside : (let i = insn.System (system.Rsr SpecialName.Xsr t n) in
+    xsr_inside : (let i = insn.System (system.Special SpecialName.Xsr t n) in
         IsWritable t → reads_no_mark i x (nested_view x f) ≡ false → IsPlanned i → special_of (laid_turn i).after.control number.vecbase ≡ b.vecbase → IsLeft i)
     unfolding reads special_reads ends_nested mark_read moved_to
     xsr_inside writable told plan vectors =
         let parts = or_parts (lacks x.seen (Some t) && lacks x.marks (Some t)) (is_unset f.unset (Some n) && lacks x.saved (Some n)) told in
-        closing (insn.System (system.Rsr SpecialName.Xsr t n)) (write_to t (special_of s.control n)) (write_to t (special_of g.control n)) (sets_one n (visible s.regs s.base t)) (sets_one n (value_or_zero x.seen t)) read_mark (set f.unset n (is_some moved_mark)) (set x.saved n moved_mark)
+        closing (insn.System (system.Special SpecialName.Xsr t n)) (write_to t (special_of s.control n)) (write_to t (special_of g.control n)) (sets_one n (visible s.regs s.base t)) (sets_one n (value_or_zero x.seen t)) read_mark (set f.unset n (is_some moved_mark)) (set x.saved n moved_mark)
         plan vectors (xsr_is code t n holds (visible s.regs s.base) s.control) (xsr_is code t n holds (value_or_zero x.seen) g.control) (λ value. refl)
         (registers_read writable parts.1) (specials_set parts.0) (one_spares n (visible s.regs s.base t) holds) (one_spares n (value_or_zero x.seen t) holds)
         (λ o is. write_alike read_mark t (special_of s.control n) (special_of g.control n) o is (read_special n holds parts.1))
@@ -560,19 +560,19 @@ module _ (code : ℕ → ℕ) (b : Bounds) (m : MemoryContents) (s : State) (f :
   marks_inside : (i : Insn) → moves_marks i ≡ true → reads_no_mark i x (nested_view x f) ≡ false → (shown : Option RegWrite) → writes_sp i (record_now code m s).write shown ≡ false
       → IsPlanned i → special_of (laid_turn i).after.control number.vecbase ≡ b.vecbase → IsLeft i
   unfolding moves_marks may_write_sp
-  marks_inside (insn.System (system.Rsr SpecialName.Rsr t n)) moves told shown write_with_reply plan vectors =
+  marks_inside (insn.System (system.Special SpecialName.Rsr t n)) moves told shown write_with_reply plan vectors =
       let both = and_parts (ltb t 4) (holds_marks n) moves in
       let low = ltb-true t 4 both.0 in
       let is = write_is code m s len (write_to t (special_of s.control n)) no_sets (plan ∙ ap (λ o. outcome_turn o len s) (rsr_is code t n both.1 (visible s.regs s.base) s.control)) in
-      rsr_inside t n low both.1 (writable_by t (special_of s.control n) (insn.System (system.Rsr SpecialName.Rsr t n)) low refl shown write_with_reply is) told plan vectors
-  marks_inside (insn.System (system.Rsr SpecialName.Wsr t n)) moves told shown write_with_reply plan vectors =
+      rsr_inside t n low both.1 (writable_by t (special_of s.control n) (insn.System (system.Special SpecialName.Rsr t n)) low refl shown write_with_reply is) told plan vectors
+  marks_inside (insn.System (system.Special SpecialName.Wsr t n)) moves told shown write_with_reply plan vectors =
       let both = and_parts (ltb t 4) (holds_marks n) moves in
       wsr_inside t n (ltb-true t 4 both.0) both.1 told plan vectors
-  marks_inside (insn.System (system.Rsr SpecialName.Xsr t n)) moves told shown write_with_reply plan vectors =
+  marks_inside (insn.System (system.Special SpecialName.Xsr t n)) moves told shown write_with_reply plan vectors =
       let both = and_parts (ltb t 4) (holds_marks n) moves in
       let low = ltb-true t 4 both.0 in
       let is = write_is code m s len (write_to t (special_of s.control n)) (sets_one n (visible s.regs s.base t)) (plan ∙ ap (λ o. outcome_turn o len s) (xsr_is code t n both.1 (visible s.regs s.base) s.control)) in
-      xsr_inside t n low both.1 (writable_by t (special_of s.control n) (insn.System (system.Rsr SpecialName.Xsr t n)) low refl shown write_with_reply is) told plan vectors
+      xsr_inside t n low both.1 (writable_by t (special_of s.control n) (insn.System (system.Special SpecialName.Xsr t n)) low refl shown write_with_reply is) told plan vectors
   marks_inside _ moves told shown write_with_reply plan vectors = absurd (true≢false (sym moves))
 
   -- an instruction that moves a mark and shows no breach

@@ -6,11 +6,11 @@ use Rattle.std.proofs.lemmas.List.{length-set}
 use Rattle.xt_isa.specs.declared.Insn.{Insn}
 use Rattle.xt_isa.specs.declared.Insn.TheVariants as insn
 use Rattle.xt_isa.specs.declared.control.Control.TheVariants as control
-use Rattle.xt_isa.specs.declared.control.RetName.TheVariants as RetName
+use Rattle.xt_isa.specs.declared.control.ReturnName.TheVariants as ReturnName
 use Rattle.xt_isa.specs.declared.density.Density.TheVariants as density
-use Rattle.xt_isa.specs.declared.density.NarrowRetName.TheVariants as NarrowRetName
+use Rattle.xt_isa.specs.declared.density.BareName.TheVariants as BareName
 use Rattle.xt_isa.specs.declared.system.System.TheVariants as system
-use Rattle.xt_isa.specs.declared.system.ReturnName.TheVariants as ReturnName
+use Rattle.xt_isa.specs.declared.system.ExceptionReturnName.TheVariants as ExceptionReturnName
 use Rattle.xt_isa.specs.declared.system.SpecialName.TheVariants as SpecialName
 use Rattle.xt_map.specs.declared.access.Access.{Access}
 use Rattle.xt_map.specs.declared.contents.MemoryContents.{MemoryContents}
@@ -223,14 +223,14 @@ module _ {suspended s : State} {f : FrameState} {x : Nested} (h : IsInside suspe
 
   reads_number : (i : Insn) → lacks x.seen (reads i).0 ≡ false → ReadsNumber (moved_to i) x.marks
   unfolding moved_to reads
-  reads_number (insn.System (system.Rsr SpecialName.Wsr t n)) e = no_mark_at t e
-  reads_number (insn.System (system.Rsr SpecialName.Xsr t n)) e = no_mark_at t e
+  reads_number (insn.System (system.Special SpecialName.Wsr t n)) e = no_mark_at t e
+  reads_number (insn.System (system.Special SpecialName.Xsr t n)) e = no_mark_at t e
   reads_number _ e = tt
 
   reads_saved : (i : Insn) → is_unset f.unset (special_reads i).0 ≡ false → mark_read i x.saved ≡ None
   unfolding mark_read special_reads
-  reads_saved (insn.System (system.Rsr SpecialName.Rsr t n)) e = no_saved_at n e
-  reads_saved (insn.System (system.Rsr SpecialName.Xsr t n)) e = no_saved_at n e
+  reads_saved (insn.System (system.Special SpecialName.Rsr t n)) e = no_saved_at n e
+  reads_saved (insn.System (system.Special SpecialName.Xsr t n)) e = no_saved_at n e
   reads_saved _ e = refl
 
   pub record Read (i : Insn) : Type 0 where
@@ -252,25 +252,25 @@ module _ {suspended s : State} {f : FrameState} {x : Nested} (h : IsInside suspe
 
 kept_elsewhere : (i : Insn) → disturbs_nested i ≡ false → Elsewhere (moved_to i) 181 × Elsewhere (moved_to i) 197
 unfolding disturbs_nested moved_to
-kept_elsewhere (insn.System (system.Rsr SpecialName.Wsr t n)) e = let p = or_parts (eqb n 181) (eqb n 197) (or_parts (eqb n 230) _ e).1 in (eqb-false n 181 p.0, eqb-false n 197 p.1)
-kept_elsewhere (insn.System (system.Rsr SpecialName.Xsr t n)) e = let p = or_parts (eqb n 181) (eqb n 197) (or_parts (eqb n 230) _ e).1 in (eqb-false n 181 p.0, eqb-false n 197 p.1)
+kept_elsewhere (insn.System (system.Special SpecialName.Wsr t n)) e = let p = or_parts (eqb n 181) (eqb n 197) (or_parts (eqb n 230) _ e).1 in (eqb-false n 181 p.0, eqb-false n 197 p.1)
+kept_elsewhere (insn.System (system.Special SpecialName.Xsr t n)) e = let p = or_parts (eqb n 181) (eqb n 197) (or_parts (eqb n 230) _ e).1 in (eqb-false n 181 p.0, eqb-false n 197 p.1)
 kept_elsewhere _ e = (tt, tt)
 
 epc1_elsewhere : (i : Insn) → sets_epc1 i ≡ false → Elsewhere (moved_to i) 177
 unfolding sets_epc1 moved_to
-epc1_elsewhere (insn.System (system.Rsr SpecialName.Wsr t n)) e = eqb-false n 177 e
-epc1_elsewhere (insn.System (system.Rsr SpecialName.Xsr t n)) e = eqb-false n 177 e
+epc1_elsewhere (insn.System (system.Special SpecialName.Wsr t n)) e = eqb-false n 177 e
+epc1_elsewhere (insn.System (system.Special SpecialName.Xsr t n)) e = eqb-false n 177 e
 epc1_elsewhere _ e = tt
 
 quiet_mode : (i : Insn) → disturbs_nested i ≡ false → ends_nested i ≡ false → is_windowing i ≡ false → sets_mode i ≡ false
 unfolding disturbs_nested ends_nested is_windowing sets_mode
-quiet_mode (insn.System (system.Rsr SpecialName.Wsr t n)) d e w = (or_parts (eqb n 230) _ d).0
-quiet_mode (insn.System (system.Rsr SpecialName.Xsr t n)) d e w = (or_parts (eqb n 230) _ d).0
-quiet_mode (insn.System (system.Rsil name t level)) d e w = absurd (true≢false d)
-quiet_mode (insn.System (system.Rfe ReturnName.Rfe)) d e w = absurd (true≢false d)
-quiet_mode (insn.System (system.Rfe ReturnName.Rfde)) d e w = absurd (true≢false d)
-quiet_mode (insn.System (system.Rfe ReturnName.Rfwo)) d e w = absurd (true≢false w)
-quiet_mode (insn.System (system.Rfe ReturnName.Rfwu)) d e w = absurd (true≢false w)
+quiet_mode (insn.System (system.Special SpecialName.Wsr t n)) d e w = (or_parts (eqb n 230) _ d).0
+quiet_mode (insn.System (system.Special SpecialName.Xsr t n)) d e w = (or_parts (eqb n 230) _ d).0
+quiet_mode (insn.System (system.Level name t level)) d e w = absurd (true≢false d)
+quiet_mode (insn.System (system.ExceptionReturn ExceptionReturnName.Rfe)) d e w = absurd (true≢false d)
+quiet_mode (insn.System (system.ExceptionReturn ExceptionReturnName.Rfde)) d e w = absurd (true≢false d)
+quiet_mode (insn.System (system.ExceptionReturn ExceptionReturnName.Rfwo)) d e w = absurd (true≢false w)
+quiet_mode (insn.System (system.ExceptionReturn ExceptionReturnName.Rfwu)) d e w = absurd (true≢false w)
 quiet_mode (insn.System (system.Rfi level)) d e w = absurd (both_ways _ e (not-false _ d))
 quiet_mode _ d e w = refl
 
@@ -285,8 +285,8 @@ exchanges_on (Some w) t n x u v e q = cc
 
 pub stops_move_none : (code : ℕ → ℕ) (i : Insn) (pc x y u v : ℕ) (ps : Ps) (threadptr : ℕ) → outcome code i pc x y u v ps threadptr ≡ Stops → moved_to i ≡ None
 unfolding outcome system_outcome moved_to
-stops_move_none code (insn.System (system.Rsr SpecialName.Wsr t n)) pc x y u v ps threadptr is = absurd (writes_on (window_register n) n x v (no_change ps threadptr) is)
-stops_move_none code (insn.System (system.Rsr SpecialName.Xsr t n)) pc x y u v ps threadptr is = absurd (exchanges_on (window_register n) t n x u v (no_change ps threadptr) is)
+stops_move_none code (insn.System (system.Special SpecialName.Wsr t n)) pc x y u v ps threadptr is = absurd (writes_on (window_register n) n x v (no_change ps threadptr) is)
+stops_move_none code (insn.System (system.Special SpecialName.Xsr t n)) pc x y u v ps threadptr is = absurd (exchanges_on (window_register n) t n x u v (no_change ps threadptr) is)
 stops_move_none code _ pc x y u v ps threadptr is = refl
 
 -- ---- ENTRY and RETW are illegal in exception mode
@@ -299,8 +299,8 @@ return_raises a0 len reply g e = ap (λ (u : FrameTurn). is_exception u.kind) (c
 illegal_raises : (code : ℕ → ℕ) (i : Insn) (len reply : ℕ) (s : State) (g : FrameState) → g.control.ps.excm ≡ true → is_illegal i s ≡ true → is_exception (fetched_step (Fetches i len) code reply g).kind ≡ true
 unfolding is_illegal outcome control_outcome density_outcome
 illegal_raises code (insn.Control (control.Entry number size)) len reply s g e bad = entry_raises _ _ len reply g e
-illegal_raises code (insn.Control (control.Ret RetName.Retw)) len reply s g e bad = return_raises _ len reply g e
-illegal_raises code (insn.Density (density.Ret NarrowRetName.Retw)) len reply s g e bad = return_raises _ len reply g e
+illegal_raises code (insn.Control (control.Return ReturnName.Retw)) len reply s g e bad = return_raises _ len reply g e
+illegal_raises code (insn.Density (density.Bare BareName.Retw)) len reply s g e bad = return_raises _ len reply g e
 illegal_raises code _ len reply s g e bad = absurd (true≢false (sym bad))
 
 -- ---- a step of one core, where f has the nested interrupt x

@@ -7,9 +7,9 @@ use Rattle.std.proofs.lemmas.Bool.{eq-eqb, ne_eqb, eqb-true, le-leb, leb-true, o
 use Rattle.xt_isa.specs.declared.Insn.{Insn}
 use Rattle.xt_isa.specs.declared.Insn.TheVariants as insn
 use Rattle.xt_isa.specs.declared.control.Control.TheVariants as control
-use Rattle.xt_isa.specs.declared.control.RetName.TheVariants as RetName
+use Rattle.xt_isa.specs.declared.control.ReturnName.TheVariants as ReturnName
 use Rattle.xt_isa.specs.declared.density.Density.TheVariants as density
-use Rattle.xt_isa.specs.declared.density.NarrowRetName.TheVariants as NarrowRetName
+use Rattle.xt_isa.specs.declared.density.BareName.TheVariants as BareName
 use Rattle.xt_isa.specs.declared.system.System.TheVariants as system
 use Rattle.xt_isa.specs.declared.system.SpecialName.TheVariants as SpecialName
 use Rattle.xt_isa.specs.Ranges.{in_range}
@@ -111,8 +111,8 @@ Calls i = IsReturn i ⊎ ((number : ℕ) × (size : ℤ) × (i ≡ insn.Control 
 
 pub illegal_excm : {b : Bounds} {fresh : Bool} {live stale : ℕ → Bool} {rec : StepRecord} {u : FrameTurn} {s : State} {g : FrameState} {ring spilled : List Frame} → Level b.vecbase (lost_at fresh g) s g ring spilled → (i : Insn) → Sound b fresh live stale i rec g u → is_illegal i s ≡ true → (s.control.ps.excm ≡ true) × Calls i
 unfolding is_illegal
-illegal_excm {ring = ring} {spilled = spilled} l (insn.Control (control.Ret RetName.Retw)) o bad = (return_illegal ring spilled l (insn.Control (control.Ret RetName.Retw)) (inl refl) o bad, inl (inl refl))
-illegal_excm {ring = ring} {spilled = spilled} l (insn.Density (density.Ret NarrowRetName.Retw)) o bad = (return_illegal ring spilled l (insn.Density (density.Ret NarrowRetName.Retw)) (inr refl) o bad, inl (inr refl))
+illegal_excm {ring = ring} {spilled = spilled} l (insn.Control (control.Return ReturnName.Retw)) o bad = (return_illegal ring spilled l (insn.Control (control.Return ReturnName.Retw)) (inl refl) o bad, inl (inl refl))
+illegal_excm {ring = ring} {spilled = spilled} l (insn.Density (density.Bare BareName.Retw)) o bad = (return_illegal ring spilled l (insn.Density (density.Bare BareName.Retw)) (inr refl) o bad, inl (inr refl))
 illegal_excm {b = b} {s = s} {g = g} l (insn.Control (control.Entry number size)) o bad =
     let one = entry_number number size b.range g o.size in (
       ⊎_elim
@@ -234,8 +234,8 @@ effect_numbers {lost = lost} i e len c d old sets h = by (moved_to i) refl
 -- WSR and XSR of EPC1
 sets_moved : (i : Insn) → sets_epc1 i ≡ true → (t : ℕ) × (moved_to i ≡ Some (t, 177))
 unfolding sets_epc1 moved_to
-sets_moved (insn.System (system.Rsr SpecialName.Wsr t n)) h = (t, ap (λ n. Some (t, n)) (eqb-true n 177 h))
-sets_moved (insn.System (system.Rsr SpecialName.Xsr t n)) h = (t, ap (λ n. Some (t, n)) (eqb-true n 177 h))
+sets_moved (insn.System (system.Special SpecialName.Wsr t n)) h = (t, ap (λ n. Some (t, n)) (eqb-true n 177 h))
+sets_moved (insn.System (system.Special SpecialName.Xsr t n)) h = (t, ap (λ n. Some (t, n)) (eqb-true n 177 h))
 sets_moved _ h = absurd (true≢false (sym h))
 
 pub epc1_effect : {lost : ℕ → Bool} (i : Insn) (e : Effect) (len : ℕ) (c d : Control) → SetsSaved i e.sets → Even lost c d → sets_epc1 i ≡ true → get_or (after_tick (after_effect e len c)).special 177 0 ≡ get_or (after_tick (after_effect e len d)).special 177 0

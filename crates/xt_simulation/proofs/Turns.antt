@@ -11,9 +11,9 @@ use Rattle.xt_isa.specs.declared.memory.WindowName.TheVariants as window
 use Rattle.xt_isa.specs.declared.memory.Memory.TheVariants as memory
 use Rattle.xt_isa.specs.declared.system.System.TheVariants as system
 use Rattle.xt_isa.specs.declared.system.WaitName.TheVariants as wait
-use Rattle.xt_isa.specs.declared.system.ReturnName.TheVariants as return
+use Rattle.xt_isa.specs.declared.system.ExceptionReturnName.TheVariants as return
 use Rattle.xt_isa.specs.declared.density.Density.TheVariants as density
-use Rattle.xt_isa.specs.declared.density.NarrowRetName.TheVariants as narrow
+use Rattle.xt_isa.specs.declared.density.BareName.TheVariants as narrow
 use Rattle.xt_isa.specs.Ranges.{in_range, two_registers, window_within}
 use Rattle.xt_map.specs.declared.access.Kind.TheVariants.{Load, Store}
 use Rattle.xt_map.specs.declared.contents.MemoryContents.{MemoryContents}
@@ -52,22 +52,22 @@ use Rattle.xt_simulation.proofs.Words.{loads_ask, stores_ask, word_replied, word
 
 -- ---- an instruction, by what it is to a handler
 pub data Shown : Insn → HandlerInsn → Type 0 where
-  load : {t s : ℕ} {offset : ℤ} → Shown (insn.Memory (memory.L32e window.L32e t s offset)) (L32e t s (unsigned_abs offset))
-  store : {t s : ℕ} {offset : ℤ} → Shown (insn.Memory (memory.L32e window.S32e t s offset)) (S32e t s (unsigned_abs offset))
-  wide_nop : Shown (insn.System (system.Excw wait.Nop)) Nop
-  narrow_nop : Shown (insn.Density (density.Ret narrow.Nop)) Nop
-  ends_overflow : Shown (insn.System (system.Rfe return.Rfwo)) Rfwo
-  ends_underflow : Shown (insn.System (system.Rfe return.Rfwu)) Rfwu
+  load : {t s : ℕ} {offset : ℤ} → Shown (insn.Memory (memory.Window window.L32e t s offset)) (L32e t s (unsigned_abs offset))
+  store : {t s : ℕ} {offset : ℤ} → Shown (insn.Memory (memory.Window window.S32e t s offset)) (S32e t s (unsigned_abs offset))
+  wide_nop : Shown (insn.System (system.Wait wait.Nop)) Nop
+  narrow_nop : Shown (insn.Density (density.Bare narrow.Nop)) Nop
+  ends_overflow : Shown (insn.System (system.ExceptionReturn return.Rfwo)) Rfwo
+  ends_underflow : Shown (insn.System (system.ExceptionReturn return.Rfwu)) Rfwu
   other : {i : Insn} → Shown i Foreign
 
 pub shown : (i : Insn) → Shown i (step_of_insn i)
 unfolding step_of_insn
-shown (insn.Memory (memory.L32e window.L32e t s offset)) = load
-shown (insn.Memory (memory.L32e window.S32e t s offset)) = store
-shown (insn.System (system.Excw wait.Nop)) = wide_nop
-shown (insn.Density (density.Ret narrow.Nop)) = narrow_nop
-shown (insn.System (system.Rfe return.Rfwo)) = ends_overflow
-shown (insn.System (system.Rfe return.Rfwu)) = ends_underflow
+shown (insn.Memory (memory.Window window.L32e t s offset)) = load
+shown (insn.Memory (memory.Window window.S32e t s offset)) = store
+shown (insn.System (system.Wait wait.Nop)) = wide_nop
+shown (insn.Density (density.Bare narrow.Nop)) = narrow_nop
+shown (insn.System (system.ExceptionReturn return.Rfwo)) = ends_overflow
+shown (insn.System (system.ExceptionReturn return.Rfwu)) = ends_underflow
 shown _ = other
 
 -- ---- within a handler no interrupt but a nested one is taken, no window is checked, and no loop goes back
@@ -163,7 +163,7 @@ unfolding window_within plus address
 within_means (pos n) h x = absurd (true≢false (sym h))
 within_means (negsuc n) h x = let small = ltb-true n 64 (and_parts (eqb ((n + 1) % 4) 0) (ltb n 64) h).1 in omega arith
 
-pub loads_at : (t s : ℕ) (offset : ℤ) (name : WindowName) → in_range (insn.Memory (memory.L32e name t s offset)) ≡ true → (x : ℕ) → plus x offset ≡ address x (unsigned_abs offset)
+pub loads_at : (t s : ℕ) (offset : ℤ) (name : WindowName) → in_range (insn.Memory (memory.Window name t s offset)) ≡ true → (x : ℕ) → plus x offset ≡ address x (unsigned_abs offset)
 loads_at t s offset name h x = within_means offset (and_parts (two_registers t s) (window_within offset) h).1 x
 
 -- ---- an instruction that is not the ending
@@ -174,37 +174,37 @@ pub record Turned (code : ℕ → ℕ) (m : MemoryContents) (s : State) (len : �
   pub bytes : (a : ℕ) → byte_at (memory_now code m s) a ≡ next.bytes a
 
 module _ (code : ℕ → ℕ) (m : MemoryContents) (s : State) (low : s.control.ps.excm ≡ true) (untaken : ltb 0 (pending_of s.control) ≡ false) (running : s.control.waits ≡ false) (len : ℕ) where
-  load_outcome : (t r : ℕ) (offset : ℤ) → in_range (insn.Memory (memory.L32e window.L32e t r offset)) ≡ true → is_access (address (visible s.regs s.base r) (unsigned_abs offset)) ≡ true
-      → outcome_at code (insn.Memory (memory.L32e window.L32e t r offset)) (visible s.regs s.base) s.control ≡ Asks (record { addr = address (visible s.regs s.base r) (unsigned_abs offset); size = 4; kind = Load }) (Some (record { number = t; signed = false })) (no_change s.control.ps s.control.threadptr)
+  load_outcome : (t r : ℕ) (offset : ℤ) → in_range (insn.Memory (memory.Window window.L32e t r offset)) ≡ true → is_access (address (visible s.regs s.base r) (unsigned_abs offset)) ≡ true
+      → outcome_at code (insn.Memory (memory.Window window.L32e t r offset)) (visible s.regs s.base) s.control ≡ Asks (record { addr = address (visible s.regs s.base r) (unsigned_abs offset); size = 4; kind = Load }) (Some (record { number = t; signed = false })) (no_change s.control.ps s.control.threadptr)
   unfolding outcome memory_outcome reads special_reads
   load_outcome t r offset range may =
       ap (λ a. loads code 4 false t a (no_change s.control.ps s.control.threadptr)) (loads_at t r offset window.L32e range (visible s.regs s.base r))
       ∙ loads_ask code t (address (visible s.regs s.base r) (unsigned_abs offset)) (no_change s.control.ps s.control.threadptr) may
 
-  store_outcome : (t r : ℕ) (offset : ℤ) → in_range (insn.Memory (memory.L32e window.S32e t r offset)) ≡ true → is_access (address (visible s.regs s.base r) (unsigned_abs offset)) ≡ true
-      → outcome_at code (insn.Memory (memory.L32e window.S32e t r offset)) (visible s.regs s.base) s.control ≡ Asks (record { addr = address (visible s.regs s.base r) (unsigned_abs offset); size = 4; kind = Store (visible s.regs s.base t % 2 ^ (8 * 4)) }) None (no_change s.control.ps s.control.threadptr)
+  store_outcome : (t r : ℕ) (offset : ℤ) → in_range (insn.Memory (memory.Window window.S32e t r offset)) ≡ true → is_access (address (visible s.regs s.base r) (unsigned_abs offset)) ≡ true
+      → outcome_at code (insn.Memory (memory.Window window.S32e t r offset)) (visible s.regs s.base) s.control ≡ Asks (record { addr = address (visible s.regs s.base r) (unsigned_abs offset); size = 4; kind = Store (visible s.regs s.base t % 2 ^ (8 * 4)) }) None (no_change s.control.ps s.control.threadptr)
   unfolding outcome memory_outcome reads special_reads
   store_outcome t r offset range may =
       ap (λ a. stores 4 (visible s.regs s.base t) a (no_change s.control.ps s.control.threadptr)) (loads_at t r offset window.S32e range (visible s.regs s.base r))
       ∙ stores_ask (visible s.regs s.base t) (address (visible s.regs s.base r) (unsigned_abs offset)) (no_change s.control.ps s.control.threadptr) may
 
-  wide_outcome : outcome_at code (insn.System (system.Excw wait.Nop)) (visible s.regs s.base) s.control ≡ Does (no_change s.control.ps s.control.threadptr)
+  wide_outcome : outcome_at code (insn.System (system.Wait wait.Nop)) (visible s.regs s.base) s.control ≡ Does (no_change s.control.ps s.control.threadptr)
   unfolding outcome system_outcome reads special_reads
   wide_outcome = refl
 
-  narrow_outcome : outcome_at code (insn.Density (density.Ret narrow.Nop)) (visible s.regs s.base) s.control ≡ Does (no_change s.control.ps s.control.threadptr)
+  narrow_outcome : outcome_at code (insn.Density (density.Bare narrow.Nop)) (visible s.regs s.base) s.control ≡ Does (no_change s.control.ps s.control.threadptr)
   unfolding outcome density_outcome reads special_reads
   narrow_outcome = refl
 
-  load_legal : (t r : ℕ) (offset : ℤ) (name : WindowName) → is_illegal (insn.Memory (memory.L32e name t r offset)) s ≡ false
+  load_legal : (t r : ℕ) (offset : ℤ) (name : WindowName) → is_illegal (insn.Memory (memory.Window name t r offset)) s ≡ false
   unfolding is_illegal
   load_legal t r offset name = refl
 
-  wide_legal : is_illegal (insn.System (system.Excw wait.Nop)) s ≡ false
+  wide_legal : is_illegal (insn.System (system.Wait wait.Nop)) s ≡ false
   unfolding is_illegal
   wide_legal = refl
 
-  narrow_legal : is_illegal (insn.Density (density.Ret narrow.Nop)) s ≡ false
+  narrow_legal : is_illegal (insn.Density (density.Bare narrow.Nop)) s ≡ false
   unfolding is_illegal
   narrow_legal = refl
 
@@ -223,25 +223,25 @@ module _ (code : ℕ → ℕ) (m : MemoryContents) (s : State) (low : s.control.
   calm : after_effect (no_change s.control.ps s.control.threadptr) len s.control ≡ record s.control { pc = (s.control.pc + len) % 2 ^ 32 }
   calm = calm_effect s.control len low running
 
-  load_turn : (t r : ℕ) (offset : ℤ) (next : Machine) → fetch_at code s.control.pc ≡ Fetches (insn.Memory (memory.L32e window.L32e t r offset)) len → in_range (insn.Memory (memory.L32e window.L32e t r offset)) ≡ true
+  load_turn : (t r : ℕ) (offset : ℤ) (next : Machine) → fetch_at code s.control.pc ≡ Fetches (insn.Memory (memory.Window window.L32e t r offset)) len → in_range (insn.Memory (memory.Window window.L32e t r offset)) ≡ true
       → is_access (address (visible s.regs s.base r) (unsigned_abs offset)) ≡ true → machine_after_step (L32e t r (unsigned_abs offset)) (machine m s) ≡ Some next → Turned code m s len next
   unfolding loaded_value
   load_turn t r offset next at range may is =
       let a : ℕ = address (visible s.regs s.base r) (unsigned_abs offset) in
       let o : Outcome = Asks (record { addr = a; size = 4; kind = Load }) (Some (record { number = t; signed = false })) (no_change s.control.ps s.control.threadptr) in
-      let p = turn_settles code s low untaken running (insn.Memory (memory.L32e window.L32e t r offset)) len o at (load_legal t r offset window.L32e) (load_outcome t r offset range may) in
+      let p = turn_settles code s low untaken running (insn.Memory (memory.Window window.L32e t r offset)) len o at (load_legal t r offset window.L32e) (load_outcome t r offset range may) in
       let to : Machine = record { ring = set s.regs (place s.base t) (word_at (byte_at m) a); base = s.base; bytes = byte_at m } in
       let n : to ≡ next = (cond_some (is_access a) to next is).1 in
       let v = word_replied m a may in
       subst (Turned code m s len) n (from_plan (outcome_turn o len s) to p refl (rw (v, calm) refl) (λ x. ap (λ n. byte_at n x) (load_keeps m a 4)))
 
-  store_turn : (t r : ℕ) (offset : ℤ) (next : Machine) → fetch_at code s.control.pc ≡ Fetches (insn.Memory (memory.L32e window.S32e t r offset)) len → in_range (insn.Memory (memory.L32e window.S32e t r offset)) ≡ true
+  store_turn : (t r : ℕ) (offset : ℤ) (next : Machine) → fetch_at code s.control.pc ≡ Fetches (insn.Memory (memory.Window window.S32e t r offset)) len → in_range (insn.Memory (memory.Window window.S32e t r offset)) ≡ true
       → is_access (address (visible s.regs s.base r) (unsigned_abs offset)) ≡ true → visible s.regs s.base t < 2 ^ 32 → HasSizes m → machine_after_step (S32e t r (unsigned_abs offset)) (machine m s) ≡ Some next → Turned code m s len next
   store_turn t r offset next at range may small sizes is =
       let a : ℕ = address (visible s.regs s.base r) (unsigned_abs offset) in
       let v : ℕ = visible s.regs s.base t in
       let o : Outcome = Asks (record { addr = a; size = 4; kind = Store (v % 2 ^ (8 * 4)) }) None (no_change s.control.ps s.control.threadptr) in
-      let p = turn_settles code s low untaken running (insn.Memory (memory.L32e window.S32e t r offset)) len o at (load_legal t r offset window.S32e) (store_outcome t r offset range may) in
+      let p = turn_settles code s low untaken running (insn.Memory (memory.Window window.S32e t r offset)) len o at (load_legal t r offset window.S32e) (store_outcome t r offset range may) in
       let to : Machine = record { ring = s.regs; base = s.base; bytes = with_word (byte_at m) a v } in
       let n : to ≡ next = (cond_some (is_access a) to next is).1 in
       subst (Turned code m s len) n (from_plan (outcome_turn o len s) to p refl (rw calm refl) (λ x. word_stored m a v x sizes may small))
@@ -258,20 +258,20 @@ module _ (code : ℕ → ℕ) (m : MemoryContents) (s : State) (low : s.control.
       → machine_after_step step (machine m s) ≡ Some next → Turned code m s len next
   turned i step next (load {t = t} {s = r} {offset = offset}) at range may small sizes is = load_turn t r offset next at range may is
   turned i step next (store {t = t} {s = r} {offset = offset}) at range may small sizes is = store_turn t r offset next at range may (small t) sizes is
-  turned i step next wide_nop at range may small sizes is = nop_turn (insn.System (system.Excw wait.Nop)) next at wide_legal wide_outcome is
-  turned i step next narrow_nop at range may small sizes is = nop_turn (insn.Density (density.Ret narrow.Nop)) next at narrow_legal narrow_outcome is
+  turned i step next wide_nop at range may small sizes is = nop_turn (insn.System (system.Wait wait.Nop)) next at wide_legal wide_outcome is
+  turned i step next narrow_nop at range may small sizes is = nop_turn (insn.Density (density.Bare narrow.Nop)) next at narrow_legal narrow_outcome is
   turned i step next ends_overflow at range may small sizes is = absurd cc
   turned i step next ends_underflow at range may small sizes is = absurd cc
   turned i step next other at range may small sizes is = absurd cc
 
   -- ---- the ending
-  overflow_ends : fetch_at code s.control.pc ≡ Fetches (insn.System (system.Rfe return.Rfwo)) len → planned_turn code s ≡ resuming_turn (without_bit s.start s.base) (special_of s.control (number.epc 1)) s
+  overflow_ends : fetch_at code s.control.pc ≡ Fetches (insn.System (system.ExceptionReturn return.Rfwo)) len → planned_turn code s ≡ resuming_turn (without_bit s.start s.base) (special_of s.control (number.epc 1)) s
   unfolding outcome system_outcome reads special_reads is_illegal
-  overflow_ends at = turn_settles code s low untaken running (insn.System (system.Rfe return.Rfwo)) len (Windowed (EndsOverflow (special_of s.control (number.epc 1)))) at refl refl
+  overflow_ends at = turn_settles code s low untaken running (insn.System (system.ExceptionReturn return.Rfwo)) len (Windowed (EndsOverflow (special_of s.control (number.epc 1)))) at refl refl
 
-  underflow_ends : fetch_at code s.control.pc ≡ Fetches (insn.System (system.Rfe return.Rfwu)) len → planned_turn code s ≡ resuming_turn (with_bit s.start s.base) (special_of s.control (number.epc 1)) s
+  underflow_ends : fetch_at code s.control.pc ≡ Fetches (insn.System (system.ExceptionReturn return.Rfwu)) len → planned_turn code s ≡ resuming_turn (with_bit s.start s.base) (special_of s.control (number.epc 1)) s
   unfolding outcome system_outcome reads special_reads is_illegal
-  underflow_ends at = turn_settles code s low untaken running (insn.System (system.Rfe return.Rfwu)) len (Windowed (EndsUnderflow (special_of s.control (number.epc 1)))) at refl refl
+  underflow_ends at = turn_settles code s low untaken running (insn.System (system.ExceptionReturn return.Rfwu)) len (Windowed (EndsUnderflow (special_of s.control (number.epc 1)))) at refl refl
 
   pub record Ended (start : ℕ) : Type 0 where
     pub kind : (planned_turn code s).kind ≡ kind.Insn
@@ -288,8 +288,8 @@ module _ (code : ℕ → ℕ) (m : MemoryContents) (s : State) (low : s.control.
         memory = ap (memory_after_step m) d;
       }
 
-  pub ends_with_rfwo : fetch_at code s.control.pc ≡ Fetches (insn.System (system.Rfe return.Rfwo)) len → Ended (without_bit s.start s.base)
+  pub ends_with_rfwo : fetch_at code s.control.pc ≡ Fetches (insn.System (system.ExceptionReturn return.Rfwo)) len → Ended (without_bit s.start s.base)
   ends_with_rfwo at = from_ending (without_bit s.start s.base) (overflow_ends at)
 
-  pub ends_with_rfwu : fetch_at code s.control.pc ≡ Fetches (insn.System (system.Rfe return.Rfwu)) len → Ended (with_bit s.start s.base)
+  pub ends_with_rfwu : fetch_at code s.control.pc ≡ Fetches (insn.System (system.ExceptionReturn return.Rfwu)) len → Ended (with_bit s.start s.base)
   ends_with_rfwu at = from_ending (with_bit s.start s.base) (underflow_ends at)

@@ -6,9 +6,9 @@ use Rattle.std.proofs.lemmas.Bool.{cases_Bool, both_ways, cond-true, cond-false,
 use Rattle.xt_isa.specs.declared.Insn.{Insn}
 use Rattle.xt_isa.specs.declared.Insn.TheVariants as insn
 use Rattle.xt_isa.specs.declared.control.Control.TheVariants as control
-use Rattle.xt_isa.specs.declared.control.RetName.TheVariants as RetName
+use Rattle.xt_isa.specs.declared.control.ReturnName.TheVariants as ReturnName
 use Rattle.xt_isa.specs.declared.density.Density.TheVariants as density
-use Rattle.xt_isa.specs.declared.density.NarrowRetName.TheVariants as NarrowRetName
+use Rattle.xt_isa.specs.declared.density.BareName.TheVariants as BareName
 use Rattle.xt_special.specs.Interrupts.{pending_of}
 use Rattle.xt_window.specs.Ring.{visible, place, ahead, bit, size_at}
 use Rattle.xt_window.specs.Moves.{base_after_call, base_after_return, behind}
@@ -176,8 +176,8 @@ return_is i (inr e) = rw e refl
 none_unset : (i : Insn) → IsReturn i → (o : Option Nested) (g : FrameState) → reads_none_in o i g ≡ false → reads_unset i g ≡ false
 unfolding moves_marks ends_nested
 none_unset i r None g h = h
-none_unset i (inl e) (Some x) g h = let q : reads_unset (insn.Control (control.Ret RetName.Retw)) g ≡ false = rw e at h in rw e q
-none_unset i (inr e) (Some x) g h = let q : reads_unset (insn.Density (density.Ret NarrowRetName.Retw)) g ≡ false = rw e at h in rw e q
+none_unset i (inl e) (Some x) g h = let q : reads_unset (insn.Control (control.Return ReturnName.Retw)) g ≡ false = rw e at h in rw e q
+none_unset i (inr e) (Some x) g h = let q : reads_unset (insn.Density (density.Bare BareName.Retw)) g ≡ false = rw e at h in rw e q
 
 -- a0 is known, and is the processor's
 pub a0_known : {vecbase : ℕ} {lost : ℕ → Bool} {s : State} {g : FrameState} {ring spilled : List Frame} → Level vecbase lost s g ring spilled → (i : Insn) → IsReturn i → reads_none i g ≡ false → value_or_zero g.seen 0 ≡ visible s.regs s.base 0
@@ -218,10 +218,10 @@ underflow_kind n s = refl
 return_windows : (i : Insn) (s : State) → IsReturn i → is_illegal i s ≡ false → has_windows s.control.ps ≡ true
 unfolding is_illegal
 return_windows i s (inl e) h =
-    let z : is_illegal (insn.Control (control.Ret RetName.Retw)) s ≡ false = rw e at h in
+    let z : is_illegal (insn.Control (control.Return ReturnName.Retw)) s ≡ false = rw e at h in
     not-false _ (or_parts _ (not (has_windows s.control.ps)) z).1
 return_windows i s (inr e) h =
-    let z : is_illegal (insn.Density (density.Ret NarrowRetName.Retw)) s ≡ false = rw e at h in
+    let z : is_illegal (insn.Density (density.Bare BareName.Retw)) s ≡ false = rw e at h in
     not-false _ (or_parts _ (not (has_windows s.control.ps)) z).1
 
 under_at : {vecbase : ℕ} {lost : ℕ → Bool} {s : State} {g : FrameState} (ring spilled : List Frame) → Level vecbase lost s g ring spilled → (code : ℕ → ℕ) (i : Insn) (a0 : ℕ) → IsReturn i → s.control.waits ≡ false → is_illegal i s ≡ false

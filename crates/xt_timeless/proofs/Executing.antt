@@ -16,7 +16,7 @@ use Rattle.xt_timeless.proofs.Turning.{time_kind}
 
 legal : (i : Insn) (s : State) → reads_time i ≡ true → is_illegal i s ≡ false
 unfolding is_illegal
-legal (insn.System (system.Rsr name t n)) s h = refl
+legal (insn.System (system.Special name t n)) s h = refl
 legal _ s h = absurd (true≢false (sym h))
 
 overflow_kind : (distance : ℕ) (s : State) → executes (overflow distance s).kind ≡ false

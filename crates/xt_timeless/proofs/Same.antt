@@ -11,7 +11,7 @@ use Rattle.xt_isa.specs.declared.memory.Memory.{Memory}
 use Rattle.xt_isa.specs.declared.memory.Memory.TheVariants as memory
 use Rattle.xt_isa.specs.declared.system.System.{System}
 use Rattle.xt_isa.specs.declared.system.System.TheVariants as system
-use Rattle.xt_isa.specs.declared.system.ReturnName.TheVariants as ReturnName
+use Rattle.xt_isa.specs.declared.system.ExceptionReturnName.TheVariants as ExceptionReturnName
 use Rattle.xt_isa.specs.declared.system.SpecialName.TheVariants as SpecialName
 use Rattle.xt_isa.specs.Ranges.{in_range}
 use Rattle.xt_special.specs.Control.{Control}
@@ -47,7 +47,7 @@ module _ (xs ys : List ℕ) (a : AreAlike xs ys) where
   three_same _ = (refl, refl)
 
   shift_same : (i : Shift) → SameReads (shift_special_reads i)
-  shift_same (shift.Srl name r t) = (a.same 3 refl, refl)
+  shift_same (shift.ShiftRight name r t) = (a.same 3 refl, refl)
   shift_same (shift.Sll r s) = (a.same 3 refl, refl)
   shift_same _ = (refl, refl)
 
@@ -56,18 +56,18 @@ module _ (xs ys : List ℕ) (a : AreAlike xs ys) where
   memory_same _ = (refl, refl)
 
   -- all but WSR and XSR
-  system_same : (i : System) → in_range (insn.System i) ≡ true → reads_time (insn.System i) ≡ false → ((t n : ℕ) → i ≡ system.Rsr SpecialName.Wsr t n → ⊥) → ((t n : ℕ) → i ≡ system.Rsr SpecialName.Xsr t n → ⊥)
+  system_same : (i : System) → in_range (insn.System i) ≡ true → reads_time (insn.System i) ≡ false → ((t n : ℕ) → i ≡ system.Special SpecialName.Wsr t n → ⊥) → ((t n : ℕ) → i ≡ system.Special SpecialName.Xsr t n → ⊥)
       → SameReads (system_special_reads i)
-  system_same (system.Rfe ReturnName.Rfe) ok h w x = (a.same 177 refl, refl)
-  system_same (system.Rfe ReturnName.Rfde) ok h w x = (a.same 192 refl, refl)
-  system_same (system.Rfe ReturnName.Rfwo) ok h w x = (a.same 177 refl, refl)
-  system_same (system.Rfe ReturnName.Rfwu) ok h w x = (a.same 177 refl, refl)
+  system_same (system.ExceptionReturn ExceptionReturnName.Rfe) ok h w x = (a.same 177 refl, refl)
+  system_same (system.ExceptionReturn ExceptionReturnName.Rfde) ok h w x = (a.same 192 refl, refl)
+  system_same (system.ExceptionReturn ExceptionReturnName.Rfwo) ok h w x = (a.same 177 refl, refl)
+  system_same (system.ExceptionReturn ExceptionReturnName.Rfwu) ok h w x = (a.same 177 refl, refl)
   system_same (system.Rfi level) ok h w x =
       let small : natural level ≤ 7 = at_most 2 7 level ok in
       (a.same (176 + natural level) (low (176 + natural level) (omega arith)), a.same (192 + natural level) (low (192 + natural level) (omega arith)))
-  system_same (system.Rsr SpecialName.Rsr t n) ok h w x = (a.same n h, refl)
-  system_same (system.Rsr SpecialName.Wsr t n) ok h w x = absurd (w t n refl)
-  system_same (system.Rsr SpecialName.Xsr t n) ok h w x = absurd (x t n refl)
+  system_same (system.Special SpecialName.Rsr t n) ok h w x = (a.same n h, refl)
+  system_same (system.Special SpecialName.Wsr t n) ok h w x = absurd (w t n refl)
+  system_same (system.Special SpecialName.Xsr t n) ok h w x = absurd (x t n refl)
   system_same _ ok h w x = (refl, refl)
 
   -- what WSR and XSR see of INTERRUPT
@@ -89,12 +89,12 @@ module _ (code : ℕ → ℕ) (registers : ℕ → ℕ) (c : Control) (ys : List
   as_read : (i : Insn) → SameReads c.special ys a (special_reads i) → outcome_at code i registers c ≡ outcome_at code i registers (with_special c ys)
   as_read i same = λ k. outcome code i c.pc (value_of registers (reads i).0) (value_of registers (reads i).1) (same.0 k) (same.1 k) c.ps c.threadptr
 
-  wsr_alike : (t n : ℕ) → AreAlikeOutcomes c.special ys (outcome_at code (insn.System (system.Rsr SpecialName.Wsr t n)) registers c) (outcome_at code (insn.System (system.Rsr SpecialName.Wsr t n)) registers (with_special c ys))
+  wsr_alike : (t n : ℕ) → AreAlikeOutcomes c.special ys (outcome_at code (insn.System (system.Special SpecialName.Wsr t n)) registers c) (outcome_at code (insn.System (system.Special SpecialName.Wsr t n)) registers (with_special c ys))
   unfolding outcome special_reads system_outcome
   wsr_alike t n = by_register (window_register n)
     where
       i : Insn
-      i = insn.System (system.Rsr SpecialName.Wsr t n)
+      i = insn.System (system.Special SpecialName.Wsr t n)
 
       x : ℕ
       x = value_of registers (reads i).0
@@ -109,12 +109,12 @@ module _ (code : ℕ → ℕ) (registers : ℕ → ℕ) (c : Control) (ys : List
       by_register None = inr (record e { sets = written_by n x (v c.special); ps = ps_written n x e.ps }, written_by n x (v ys), refl, refl, written_alike n x (v c.special) (v ys) c.special ys (interrupt_same c.special ys a n) a)
       by_register (Some w) = inl refl
 
-  xsr_alike : (t n : ℕ) → is_of_time n ≡ false → AreAlikeOutcomes c.special ys (outcome_at code (insn.System (system.Rsr SpecialName.Xsr t n)) registers c) (outcome_at code (insn.System (system.Rsr SpecialName.Xsr t n)) registers (with_special c ys))
+  xsr_alike : (t n : ℕ) → is_of_time n ≡ false → AreAlikeOutcomes c.special ys (outcome_at code (insn.System (system.Special SpecialName.Xsr t n)) registers c) (outcome_at code (insn.System (system.Special SpecialName.Xsr t n)) registers (with_special c ys))
   unfolding outcome special_reads system_outcome
   xsr_alike t n h = by_register (window_register n)
     where
       i : Insn
-      i = insn.System (system.Rsr SpecialName.Xsr t n)
+      i = insn.System (system.Special SpecialName.Xsr t n)
 
       x : ℕ
       x = value_of registers (reads i).0
@@ -142,17 +142,17 @@ module _ (code : ℕ → ℕ) (registers : ℕ → ℕ) (c : Control) (ys : List
   system_alike : (i : System) → in_range (insn.System i) ≡ true → reads_time (insn.System i) ≡ false
       → AreAlikeOutcomes c.special ys (outcome_at code (insn.System i) registers c) (outcome_at code (insn.System i) registers (with_special c ys))
   unfolding special_reads
-  system_alike (system.Rsr SpecialName.Wsr t n) ok h = wsr_alike t n
-  system_alike (system.Rsr SpecialName.Xsr t n) ok h = xsr_alike t n h
-  system_alike (system.Rfe name) ok h = other_alike (insn.System (system.Rfe name)) (system_same c.special ys a (system.Rfe name) ok h (λ t n e. absurd cc) (λ t n e. absurd cc))
+  system_alike (system.Special SpecialName.Wsr t n) ok h = wsr_alike t n
+  system_alike (system.Special SpecialName.Xsr t n) ok h = xsr_alike t n h
+  system_alike (system.ExceptionReturn name) ok h = other_alike (insn.System (system.ExceptionReturn name)) (system_same c.special ys a (system.ExceptionReturn name) ok h (λ t n e. absurd cc) (λ t n e. absurd cc))
   system_alike (system.Rfi level) ok h = other_alike (insn.System (system.Rfi level)) (system_same c.special ys a (system.Rfi level) ok h (λ t n e. absurd cc) (λ t n e. absurd cc))
-  system_alike (system.Rsr SpecialName.Rsr t n) ok h = other_alike (insn.System (system.Rsr SpecialName.Rsr t n)) (a.same n h, refl)
-  system_alike (system.Ill name) ok h = other_alike (insn.System (system.Ill name)) (refl, refl)
-  system_alike (system.Excw name) ok h = other_alike (insn.System (system.Excw name)) (refl, refl)
-  system_alike (system.Break name x y) ok h = other_alike (insn.System (system.Break name x y)) (refl, refl)
-  system_alike (system.Rsil name t level) ok h = other_alike (insn.System (system.Rsil name t level)) (refl, refl)
+  system_alike (system.Special SpecialName.Rsr t n) ok h = other_alike (insn.System (system.Special SpecialName.Rsr t n)) (a.same n h, refl)
+  system_alike (system.Sync name) ok h = other_alike (insn.System (system.Sync name)) (refl, refl)
+  system_alike (system.Wait name) ok h = other_alike (insn.System (system.Wait name)) (refl, refl)
+  system_alike (system.Trap name x y) ok h = other_alike (insn.System (system.Trap name x y)) (refl, refl)
+  system_alike (system.Level name t level) ok h = other_alike (insn.System (system.Level name t level)) (refl, refl)
   system_alike (system.Rotw n) ok h = other_alike (insn.System (system.Rotw n)) (refl, refl)
-  system_alike (system.Rur name r n) ok h = other_alike (insn.System (system.Rur name r n)) (refl, refl)
+  system_alike (system.User name r n) ok h = other_alike (insn.System (system.User name r n)) (refl, refl)
 
   pub outcomes_alike : (i : Insn) → in_range i ≡ true → reads_time i ≡ false → AreAlikeOutcomes c.special ys (outcome_at code i registers c) (outcome_at code i registers (with_special c ys))
   unfolding special_reads

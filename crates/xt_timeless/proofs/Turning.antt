@@ -4,9 +4,9 @@ use Rattle.std.proofs.lemmas.Bool.{eqb-true, or_parts, true≢false}
 use Rattle.xt_isa.specs.declared.Insn.{Insn}
 use Rattle.xt_isa.specs.declared.Insn.TheVariants as insn
 use Rattle.xt_isa.specs.declared.control.Control.TheVariants as control
-use Rattle.xt_isa.specs.declared.control.RetName.TheVariants as RetName
+use Rattle.xt_isa.specs.declared.control.ReturnName.TheVariants as ReturnName
 use Rattle.xt_isa.specs.declared.density.Density.TheVariants as density
-use Rattle.xt_isa.specs.declared.density.NarrowRetName.TheVariants as NarrowRetName
+use Rattle.xt_isa.specs.declared.density.BareName.TheVariants as BareName
 use Rattle.xt_isa.specs.declared.system.System.TheVariants as system
 use Rattle.xt_isa.specs.declared.system.SpecialName.TheVariants as SpecialName
 use Rattle.xt_isa.specs.Ranges.{in_range}
@@ -188,15 +188,15 @@ module _ (s : State) (ys : List ℕ) (a : AreAlike s.control.special ys) where
 
 pub time_kind : (code : ℕ → ℕ) (i : Insn) (registers : ℕ → ℕ) (c : Control) (len : ℕ) (s : State) → reads_time i ≡ true → (outcome_turn (outcome_at code i registers c) len s).kind ≡ kind.Insn
 unfolding outcome system_outcome special_reads
-time_kind code (insn.System (system.Rsr SpecialName.Rsr t n)) registers c len s h = by_register (window_register n)
+time_kind code (insn.System (system.Special SpecialName.Rsr t n)) registers c len s h = by_register (window_register n)
   where
     by_register : (r : Option WindowRegister) → (outcome_turn (reads_special r t n (value_of (special_of c) (Some n)) (no_change c.ps c.threadptr)) len s).kind ≡ kind.Insn
     by_register None = refl
     by_register (Some w) = refl
-time_kind code (insn.System (system.Rsr SpecialName.Xsr t n)) registers c len s h = by_register (window_register n)
+time_kind code (insn.System (system.Special SpecialName.Xsr t n)) registers c len s h = by_register (window_register n)
   where
     i : Insn
-    i = insn.System (system.Rsr SpecialName.Xsr t n)
+    i = insn.System (system.Special SpecialName.Xsr t n)
 
     by_register : (r : Option WindowRegister)
         → (outcome_turn (exchanges_special r t n (value_of registers (reads i).0) (value_of (special_of c) (Some n)) (value_of (special_of c) (changes_interrupt n)) (no_change c.ps c.threadptr)) len s).kind ≡ kind.Insn
@@ -213,8 +213,8 @@ Stage time p q = AreKept p q ⊎ ((p.kind ≡ kind.Insn) × (q.kind ≡ kind.Ins
 illegal_same : (i : Insn) (s : State) (ys : List ℕ) → is_illegal i s ≡ is_illegal i (record s { control = with_special s.control ys })
 unfolding is_illegal
 illegal_same (insn.Control (control.Entry number size)) s ys = refl
-illegal_same (insn.Control (control.Ret RetName.Retw)) s ys = refl
-illegal_same (insn.Density (density.Ret NarrowRetName.Retw)) s ys = refl
+illegal_same (insn.Control (control.Return ReturnName.Retw)) s ys = refl
+illegal_same (insn.Density (density.Bare BareName.Retw)) s ys = refl
 illegal_same _ s ys = refl
 
 module _ (code : ℕ → ℕ) (s : State) (ys : List ℕ) (a : AreAlike s.control.special ys) where

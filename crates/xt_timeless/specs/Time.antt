@@ -54,8 +54,8 @@ is_of_time n =
 
 -- RSR or XSR of one of them
 abbrev pub reads_time : Insn → Bool
-reads_time (insn.System (system.Rsr SpecialName.Rsr t n)) = is_of_time n
-reads_time (insn.System (system.Rsr SpecialName.Xsr t n)) = is_of_time n
+reads_time (insn.System (system.Special SpecialName.Rsr t n)) = is_of_time n
+reads_time (insn.System (system.Special SpecialName.Xsr t n)) = is_of_time n
 reads_time _ = false
 
 abbrev pub fetches_time : Fetched → Bool

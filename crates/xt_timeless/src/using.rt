@@ -35,8 +35,8 @@ pub fn reads_time(insn: Insn) -> bool
     ensures { result ≡ reads_time insn }
 {
     match insn {
-        Insn::System(System::Rsr(SpecialName::Rsr, _, n)) => is_of_time(n),
-        Insn::System(System::Rsr(SpecialName::Xsr, _, n)) => is_of_time(n),
+        Insn::System(System::Special(SpecialName::Rsr, _, n)) => is_of_time(n),
+        Insn::System(System::Special(SpecialName::Xsr, _, n)) => is_of_time(n),
         _ => false,
     }
 }

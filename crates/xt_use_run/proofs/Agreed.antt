@@ -4,9 +4,9 @@ use Rattle.std.proofs.lemmas.Bool.{or_parts, not-false}
 use Rattle.xt_isa.specs.declared.Insn.{Insn}
 use Rattle.xt_isa.specs.declared.Insn.TheVariants as insn
 use Rattle.xt_isa.specs.declared.control.Control.TheVariants as control
-use Rattle.xt_isa.specs.declared.control.RetName.TheVariants as RetName
+use Rattle.xt_isa.specs.declared.control.ReturnName.TheVariants as ReturnName
 use Rattle.xt_isa.specs.declared.density.Density.TheVariants as density
-use Rattle.xt_isa.specs.declared.density.NarrowRetName.TheVariants as NarrowRetName
+use Rattle.xt_isa.specs.declared.density.BareName.TheVariants as BareName
 use Rattle.xt_special.specs.Numbers as number
 use Rattle.xt_special.specs.Control.{Control, special_of}
 use Rattle.xt_special.specs.declared.ps.Ps.{Ps}
@@ -47,8 +47,8 @@ uses_known i s h e =
 -- RETW uses all of a0
 pub return_whole : {s : UseState} {g h : FrameState} → NowFit s g h → (i : Insn) → used_are_known s.masks.discipline i (first_word i s h) (second_word i s h) ≡ true → value_of (value_or_zero g.seen) (reads i).0 < 2 ^ 32 → is_return i ≡ true → value_or_zero g.seen 0 ≡ value_or_zero h.seen 0
 unfolding is_return reads used_are_known control_used density_used
-return_whole {s = s} {g = g} {h = h} f (insn.Control (control.Ret RetName.Retw)) used small is = sym (whole_value (value_or_zero g.seen 0) (first_word (insn.Control (control.Ret RetName.Retw)) s h) (word_fits f (Some 0)) small used)
-return_whole {s = s} {g = g} {h = h} f (insn.Density (density.Ret NarrowRetName.Retw)) used small is = sym (whole_value (value_or_zero g.seen 0) (first_word (insn.Density (density.Ret NarrowRetName.Retw)) s h) (word_fits f (Some 0)) small used)
+return_whole {s = s} {g = g} {h = h} f (insn.Control (control.Return ReturnName.Retw)) used small is = sym (whole_value (value_or_zero g.seen 0) (first_word (insn.Control (control.Return ReturnName.Retw)) s h) (word_fits f (Some 0)) small used)
+return_whole {s = s} {g = g} {h = h} f (insn.Density (density.Bare BareName.Retw)) used small is = sym (whole_value (value_or_zero g.seen 0) (first_word (insn.Density (density.Bare BareName.Retw)) s h) (word_fits f (Some 0)) small used)
 return_whole f _ used small is = absurd cc
 
 -- ---- a1

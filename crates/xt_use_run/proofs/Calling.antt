@@ -7,9 +7,9 @@ use Rattle.std.proofs.lemmas.List.{get_or-take, get_or_append_left, get_or-set_s
 use Rattle.xt_isa.specs.declared.Insn.{Insn}
 use Rattle.xt_isa.specs.declared.Insn.TheVariants as insn
 use Rattle.xt_isa.specs.declared.control.Control.TheVariants as control
-use Rattle.xt_isa.specs.declared.control.RetName.TheVariants as RetName
+use Rattle.xt_isa.specs.declared.control.ReturnName.TheVariants as ReturnName
 use Rattle.xt_isa.specs.declared.density.Density.TheVariants as density
-use Rattle.xt_isa.specs.declared.density.NarrowRetName.TheVariants as NarrowRetName
+use Rattle.xt_isa.specs.declared.density.BareName.TheVariants as BareName
 use Rattle.xt_special.specs.Access.{is_eps}
 use Rattle.xt_special.specs.declared.ps.Ps.{Ps}
 use Rattle.xt_special.specs.Control.{Control}
@@ -63,20 +63,20 @@ entry_pointer _ mask bits e = absurd cc
 
 return_moves : (i : Insn) → is_return i ≡ true → moved_to i ≡ None
 unfolding is_return moved_to
-return_moves (insn.Control (control.Ret RetName.Retw)) e = refl
-return_moves (insn.Density (density.Ret NarrowRetName.Retw)) e = refl
+return_moves (insn.Control (control.Return ReturnName.Retw)) e = refl
+return_moves (insn.Density (density.Bare BareName.Retw)) e = refl
 return_moves _ e = absurd cc
 
 return_enters : (i : Insn) → is_return i ≡ true → is_entry i ≡ false
 unfolding is_return is_entry
-return_enters (insn.Control (control.Ret RetName.Retw)) e = refl
-return_enters (insn.Density (density.Ret NarrowRetName.Retw)) e = refl
+return_enters (insn.Control (control.Return ReturnName.Retw)) e = refl
+return_enters (insn.Density (density.Bare BareName.Retw)) e = refl
 return_enters _ e = absurd cc
 
 return_pointer : (i : Insn) (mask bits : ℕ) → is_return i ≡ true → pointer_mask i mask bits ≡ bits
 unfolding is_return pointer_mask
-return_pointer (insn.Control (control.Ret RetName.Retw)) mask bits e = refl
-return_pointer (insn.Density (density.Ret NarrowRetName.Retw)) mask bits e = refl
+return_pointer (insn.Control (control.Return ReturnName.Retw)) mask bits e = refl
+return_pointer (insn.Density (density.Bare BareName.Retw)) mask bits e = refl
 return_pointer _ mask bits e = absurd cc
 
 -- to the next instruction, or back in a loop

@@ -37,7 +37,7 @@ special_is (Some p) mask m = refl
 
 pub pointer_is : (i : Insn) (mask : ℕ) (m : ValidityBits) → pointer_written i mask m ≡ record m { threadptr = pointer_mask i mask m.threadptr }
 unfolding pointer_written pointer_mask
-pointer_is (insn.System (system.Rur UserName.Wur t n)) mask m = refl
+pointer_is (insn.System (system.User UserName.Wur t n)) mask m = refl
 pointer_is _ mask m = refl
 
 abbrev pub written_list : Option RegWrite → ℕ → List ℕ → List ℕ

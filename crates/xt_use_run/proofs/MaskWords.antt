@@ -103,7 +103,7 @@ special_small (Some p) mask m h w = record { seen = w.seen; kept = w.kept; speci
 
 pointer_small : (i : Insn) (mask : ℕ) (m : ValidityBits) → mask < 2 ^ 32 → MaskWords m → MaskWords (pointer_written i mask m)
 unfolding pointer_written
-pointer_small (insn.System (system.Rur UserName.Wur t n)) mask m h w = record { seen = w.seen; kept = w.kept; special = w.special; threadptr = h; inner = w.inner }
+pointer_small (insn.System (system.User UserName.Wur t n)) mask m h w = record { seen = w.seen; kept = w.kept; special = w.special; threadptr = h; inner = w.inner }
 pointer_small _ mask m h w = w
 
 visible_small : (nested : Bool) (o : Option RegWrite) (mask : ℕ) (m : ValidityBits) → mask < 2 ^ 32 → MaskWords m → MaskWords (visible_written nested o mask m)

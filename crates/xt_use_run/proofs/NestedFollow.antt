@@ -133,8 +133,8 @@ module _ {f : FrameState} {s : UseState} (k : Knows f s) (x y : Nested) (fx : f.
   module _ (bare : (i j : ℕ) → get_or x.marks i None ≡ Some j → get_or s.masks.inner i 0 ≡ 0) where
     reads_moved : (i : Insn) (p : ℕ × ℕ) → moved_to i ≡ Some p → (reads i).0 ≡ Some p.0
     unfolding moved_to reads
-    reads_moved (insn.System (system.Rsr SpecialName.Wsr t n)) p e = ap (λ (o : Option (ℕ × ℕ)). Some (unwrap_or o (0, 0)).0) e
-    reads_moved (insn.System (system.Rsr SpecialName.Xsr t n)) p e = ap (λ (o : Option (ℕ × ℕ)). Some (unwrap_or o (0, 0)).0) e
+    reads_moved (insn.System (system.Special SpecialName.Wsr t n)) p e = ap (λ (o : Option (ℕ × ℕ)). Some (unwrap_or o (0, 0)).0) e
+    reads_moved (insn.System (system.Special SpecialName.Xsr t n)) p e = ap (λ (o : Option (ℕ × ℕ)). Some (unwrap_or o (0, 0)).0) e
     reads_moved _ p e = absurd cc
 
     mark_mask : (o : Option ℕ) (t : ℕ) → o ≡ Some t → is_some (get_or x.marks t None) ≡ true → (visible_word s h o).mask ≡ 0

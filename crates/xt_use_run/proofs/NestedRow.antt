@@ -63,21 +63,21 @@ module _ {code : ℕ → ℕ} {b : Bounds} {m : MemoryContents} {s : State} {f :
 -- ---- a mark that is read has the mask 0
 pub moves_hold : (i : Insn) (j : ℕ) (saved : List (Option ℕ)) → mark_read i saved ≡ Some j → moves_marks i ≡ true → (n : ℕ) × ((special_reads i).0 ≡ Some n) × (holds_marks n ≡ true) × (get_or saved n None ≡ Some j)
 unfolding mark_read moves_marks special_reads
-moves_hold (insn.System (system.Rsr SpecialName.Rsr t n)) j saved e h = (n, refl, (and_parts (ltb t 4) (holds_marks n) h).1, e)
-moves_hold (insn.System (system.Rsr SpecialName.Xsr t n)) j saved e h = (n, refl, (and_parts (ltb t 4) (holds_marks n) h).1, e)
+moves_hold (insn.System (system.Special SpecialName.Rsr t n)) j saved e h = (n, refl, (and_parts (ltb t 4) (holds_marks n) h).1, e)
+moves_hold (insn.System (system.Special SpecialName.Xsr t n)) j saved e h = (n, refl, (and_parts (ltb t 4) (holds_marks n) h).1, e)
 moves_hold _ j saved e h = absurd cc
 
 -- RSR and XSR write what is known of the special register
 pub moves_result : (i : Insn) (j : ℕ) (saved : List (Option ℕ)) (us : UseState) (h : FrameState) (r : ℕ) → mark_read i saved ≡ Some j → result_mask us.masks.discipline i (first_word i us h) (second_word i us h) (special_operand i us h) us.masks.threadptr r ≡ (special_operand i us h).mask
 unfolding mark_read result_mask system_mask
-moves_result (insn.System (system.Rsr SpecialName.Rsr t n)) j saved us h r e = refl
-moves_result (insn.System (system.Rsr SpecialName.Xsr t n)) j saved us h r e = refl
+moves_result (insn.System (system.Special SpecialName.Rsr t n)) j saved us h r e = refl
+moves_result (insn.System (system.Special SpecialName.Xsr t n)) j saved us h r e = refl
 moves_result _ j saved us h r e = absurd cc
 
 -- a mark is read by what moves marks alone
 pub reading_moves : (i : Insn) (j : ℕ) (x : Nested) → mark_read i x.saved ≡ Some j → reads_mark (Some x) i ≡ false → moves_marks i ≡ true
 unfolding mark_read moves_marks special_reads reads
-reading_moves (insn.System (system.Rsr SpecialName.Rsr t n)) j x e h = by_test (ltb t 4 && holds_marks n) h
+reading_moves (insn.System (system.Special SpecialName.Rsr t n)) j x e h = by_test (ltb t 4 && holds_marks n) h
   where
     has : is_some (get_or x.saved n None) ≡ true
     has = ap (λ (o : Option ℕ). is_some o) e
@@ -85,7 +85,7 @@ reading_moves (insn.System (system.Rsr SpecialName.Rsr t n)) j x e h = by_test (
     by_test : (z : Bool) → (not z && (is_some (get_or x.saved n None) || false)) ≡ false → z ≡ true
     by_test true q = refl
     by_test false q = absurd (false≢true (sym q ∙ or_left _ _ has))
-reading_moves (insn.System (system.Rsr SpecialName.Xsr t n)) j x e h = by_test (ltb t 4 && holds_marks n) h
+reading_moves (insn.System (system.Special SpecialName.Xsr t n)) j x e h = by_test (ltb t 4 && holds_marks n) h
   where
     has : is_some (get_or x.saved n None) ≡ true
     has = ap (λ (o : Option ℕ). is_some o) e

@@ -4,9 +4,9 @@ use Rattle.std.proofs.lemmas.Bool.{and_left, both_ways, false_from_ne_true, fals
 use Rattle.xt_isa.specs.declared.Insn.{Insn}
 use Rattle.xt_isa.specs.declared.Insn.TheVariants as insn
 use Rattle.xt_isa.specs.declared.control.Control.TheVariants as control
-use Rattle.xt_isa.specs.declared.control.RetName.TheVariants as RetName
+use Rattle.xt_isa.specs.declared.control.ReturnName.TheVariants as ReturnName
 use Rattle.xt_isa.specs.declared.density.Density.TheVariants as density
-use Rattle.xt_isa.specs.declared.density.NarrowRetName.TheVariants as NarrowRetName
+use Rattle.xt_isa.specs.declared.density.BareName.TheVariants as BareName
 use Rattle.xt_special.specs.declared.ps.Ps.{Ps}
 use Rattle.xt_trace.specs.declared.record.StepRecord.{StepRecord}
 use Rattle.xt_fetch.specs.Fetching.{Fetches}
@@ -39,8 +39,8 @@ calls_form _ e = absurd (false≢true e)
 
 return_form : (i : Insn) → is_return i ≡ true → Calls i
 unfolding is_return
-return_form (insn.Control (control.Ret RetName.Retw)) e = inl (inl refl)
-return_form (insn.Density (density.Ret NarrowRetName.Retw)) e = inl (inr refl)
+return_form (insn.Control (control.Return ReturnName.Retw)) e = inl (inl refl)
+return_form (insn.Density (density.Bare BareName.Retw)) e = inl (inr refl)
 return_form _ e = absurd (false≢true e)
 
 no_size : (r : Range) (i : Insn) (g : FrameState) → is_entry i ≡ false → other_frame_size r i g ≡ false

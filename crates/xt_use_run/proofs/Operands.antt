@@ -9,7 +9,7 @@ use Rattle.xt_isa.specs.declared.three.Three.TheVariants as three
 use Rattle.xt_isa.specs.declared.shift.Shift.TheVariants as shift
 use Rattle.xt_isa.specs.declared.memory.Memory.TheVariants as memory
 use Rattle.xt_isa.specs.declared.system.System.TheVariants as system
-use Rattle.xt_isa.specs.declared.system.ReturnName.TheVariants as ReturnName
+use Rattle.xt_isa.specs.declared.system.ExceptionReturnName.TheVariants as ExceptionReturnName
 use Rattle.xt_isa.specs.declared.system.SpecialName.TheVariants as SpecialName
 use Rattle.xt_isa.specs.Ranges.{in_range, natural_within}
 use Rattle.xt_special.specs.Control.{special_of}
@@ -59,20 +59,20 @@ pub second_special : (i : Insn) → in_range i ≡ true → NoMark (special_read
 unfolding special_reads
 second_special (insn.Three (three.Src r s t)) ok = tt
 second_special (insn.Three _) ok = tt
-second_special (insn.Shift (shift.Srl name r t)) ok = tt
+second_special (insn.Shift (shift.ShiftRight name r t)) ok = tt
 second_special (insn.Shift (shift.Sll r s)) ok = tt
 second_special (insn.Shift _) ok = tt
 second_special (insn.Memory (memory.S32c1i t s offset)) ok = tt
 second_special (insn.Memory _) ok = tt
 second_special (insn.Control i) ok = tt
-second_special (insn.System (system.Rfe ReturnName.Rfe)) ok = tt
-second_special (insn.System (system.Rfe ReturnName.Rfde)) ok = tt
-second_special (insn.System (system.Rfe ReturnName.Rfwo)) ok = tt
-second_special (insn.System (system.Rfe ReturnName.Rfwu)) ok = tt
+second_special (insn.System (system.ExceptionReturn ExceptionReturnName.Rfe)) ok = tt
+second_special (insn.System (system.ExceptionReturn ExceptionReturnName.Rfde)) ok = tt
+second_special (insn.System (system.ExceptionReturn ExceptionReturnName.Rfwo)) ok = tt
+second_special (insn.System (system.ExceptionReturn ExceptionReturnName.Rfwu)) ok = tt
 second_special (insn.System (system.Rfi level)) ok = low_mark (192 + natural level) (let s = small_level level ok in omega arith)
-second_special (insn.System (system.Rsr SpecialName.Rsr t n)) ok = tt
-second_special (insn.System (system.Rsr SpecialName.Wsr t n)) ok = interrupt_mark n
-second_special (insn.System (system.Rsr SpecialName.Xsr t n)) ok = interrupt_mark n
+second_special (insn.System (system.Special SpecialName.Rsr t n)) ok = tt
+second_special (insn.System (system.Special SpecialName.Wsr t n)) ok = interrupt_mark n
+second_special (insn.System (system.Special SpecialName.Xsr t n)) ok = interrupt_mark n
 second_special (insn.System _) ok = tt
 second_special (insn.Density i) ok = tt
 second_special (insn.Boolean i) ok = tt

@@ -33,9 +33,9 @@ OutcomesNear m o p = o ≡ p
 
 -- the row shows PS in the register that it writes
 unfoldable pub shows_owb : System → Bool
-shows_owb (system.Rsr SpecialName.Rsr t k) = eqb k 230
-shows_owb (system.Rsr SpecialName.Xsr t k) = eqb k 230
-shows_owb (system.Rsil LevelName.Rsil t level) = true
+shows_owb (system.Special SpecialName.Rsr t k) = eqb k 230
+shows_owb (system.Special SpecialName.Xsr t k) = eqb k 230
+shows_owb (system.Level LevelName.Rsil t level) = true
 shows_owb _ = false
 
 unfoldable pub shows_owb_in : Insn → Bool

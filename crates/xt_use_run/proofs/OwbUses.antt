@@ -214,7 +214,7 @@ module _ (k w : ℕ) (s : UseState) (h : FrameState) where
 -- ---- the rows that show OWB write it in bits that are not known
 pub shown_mask : (i : Insn) (k : ℕ) (s : UseState) (h : FrameState) → s.masks.discipline ≡ Strict → shows_owb_in i ≡ true → mask_of i k s h ≡ counted_bits Strict 230
 unfolding result_mask system_mask shows_owb_in shows_owb special_reads
-shown_mask (insn.System (system.Rsr SpecialName.Rsr t n)) k s h strict e = ap (special_mask s.masks) (eqb-true n 230 e) ∙ ap (λ d. counted_bits d 230) strict
-shown_mask (insn.System (system.Rsr SpecialName.Xsr t n)) k s h strict e = ap (special_mask s.masks) (eqb-true n 230 e) ∙ ap (λ d. counted_bits d 230) strict
-shown_mask (insn.System (system.Rsil LevelName.Rsil t level)) k s h strict e = ap (λ d. counted_bits d 230) strict
+shown_mask (insn.System (system.Special SpecialName.Rsr t n)) k s h strict e = ap (special_mask s.masks) (eqb-true n 230 e) ∙ ap (λ d. counted_bits d 230) strict
+shown_mask (insn.System (system.Special SpecialName.Xsr t n)) k s h strict e = ap (special_mask s.masks) (eqb-true n 230 e) ∙ ap (λ d. counted_bits d 230) strict
+shown_mask (insn.System (system.Level LevelName.Rsil t level)) k s h strict e = ap (λ d. counted_bits d 230) strict
 shown_mask _ k s h strict e = absurd (false≢true e)

@@ -12,7 +12,7 @@ use Rattle.xt_uses.specs.UseLaws.{pointer_mask}
 
 same : (i : Insn) (x t : ℕ) → rows.pointer_left i x t ≡ pointer_mask i x t
 unfolding rows.pointer_left pointer_mask
-same (insn.System (system.Rur UserName.Wur r n)) x t = refl
+same (insn.System (system.User UserName.Wur r n)) x t = refl
 same _ x t = refl
 
 -- WUR gives THREADPTR the value that it reads, and no other row changes it

@@ -7,9 +7,9 @@ use Rattle.std.proofs.lemmas.List.{get_or-set_same, get_or-set_other}
 use Rattle.xt_isa.specs.declared.Insn.{Insn}
 use Rattle.xt_isa.specs.declared.Insn.TheVariants as insn
 use Rattle.xt_isa.specs.declared.control.Control.TheVariants as control
-use Rattle.xt_isa.specs.declared.control.RetName.TheVariants as RetName
+use Rattle.xt_isa.specs.declared.control.ReturnName.TheVariants as ReturnName
 use Rattle.xt_isa.specs.declared.density.Density.TheVariants as density
-use Rattle.xt_isa.specs.declared.density.NarrowRetName.TheVariants as NarrowRetName
+use Rattle.xt_isa.specs.declared.density.BareName.TheVariants as BareName
 use Rattle.xt_isa.specs.Ranges.{in_range}
 use Rattle.xt_special.specs.declared.ps.Ps.{Ps}
 use Rattle.xt_special.specs.Shape.{IsPs}
@@ -59,8 +59,8 @@ pub read_seats : {vecbase : ℕ} {lost : ℕ → Bool} {s : State} {g : FrameSta
     → (is_illegal i s ≡ false → window_check i s ≡ 0) → HasSeat ring (reads i).0 × HasSeat ring (reads i).1
 unfolding reads is_illegal is_entry
 read_seats {g = g} l (insn.Control (control.Entry number size)) r ok high size_ free = let one = entry_number number size r g size_ in (low_seat l number (omega arith), tt)
-read_seats l (insn.Control (control.Ret RetName.Retw)) r ok high size_ free = (low_seat l 0 (omega arith), tt)
-read_seats l (insn.Density (density.Ret NarrowRetName.Retw)) r ok high size_ free = (low_seat l 0 (omega arith), tt)
+read_seats l (insn.Control (control.Return ReturnName.Retw)) r ok high size_ free = (low_seat l 0 (omega arith), tt)
+read_seats l (insn.Density (density.Bare BareName.Retw)) r ok high size_ free = (low_seat l 0 (omega arith), tt)
 read_seats l i r ok high size_ free = let each = reads_named i in let c = free refl in (named_seat l i ok refl high c (reads i).0 each.0, named_seat l i ok refl high c (reads i).1 each.1)
 
 -- ---- visible registers

@@ -43,13 +43,13 @@ use Rattle.xt_use_run.proofs.Rows.{EntersWord, Executes, Ordinary, Pops, Pushes,
 -- the mask of what a row writes does not depend on the reply, or is whole where the reply is known
 memory_whole : (i : Memory) (x : Word) (r : ℕ) → (memory_mask i x r ≡ memory_mask i x all_bits) ⊎ (memory_mask i x all_bits ≡ all_bits)
 unfolding memory_mask loaded_value
-memory_whole (memory.L8ui name t s offset) x r = inr refl
-memory_whole (memory.L16ui HalfName.L16ui t s offset) x r = inr refl
-memory_whole (memory.L16ui HalfName.L16si t s offset) x r = inr refl
-memory_whole (memory.L16ui HalfName.S16i t s offset) x r = inr refl
-memory_whole (memory.L32i name t s offset) x r = inr refl
+memory_whole (memory.Byte name t s offset) x r = inr refl
+memory_whole (memory.Half HalfName.L16ui t s offset) x r = inr refl
+memory_whole (memory.Half HalfName.L16si t s offset) x r = inr refl
+memory_whole (memory.Half HalfName.S16i t s offset) x r = inr refl
+memory_whole (memory.Word name t s offset) x r = inr refl
 memory_whole (memory.S32c1i t s offset) x r = inr refl
-memory_whole (memory.L32e name t s offset) x r = inr refl
+memory_whole (memory.Window name t s offset) x r = inr refl
 memory_whole (memory.L32r t offset) x r = inr refl
 memory_whole (memory.Movi t n) x r = inl refl
 memory_whole (memory.Addi t s n) x r = inl refl
@@ -57,7 +57,7 @@ memory_whole (memory.Addmi t s n) x r = inl refl
 
 density_whole : (i : Density) (x y : Word) (r : ℕ) → (density_mask i x y r ≡ density_mask i x y all_bits) ⊎ (density_mask i x y all_bits ≡ all_bits)
 unfolding density_mask loaded_value
-density_whole (density.L32i name t s offset) x y r = inr refl
+density_whole (density.Word name t s offset) x y r = inr refl
 density_whole (density.Add a s t) x y r = inl refl
 density_whole (density.Addi a s n) x y r = inl refl
 density_whole (density.Mov t s) x y r = inl refl

@@ -7,9 +7,9 @@ use Rattle.std.proofs.lemmas.Bool.{both_ways, cases_Bool, cond-false, cond-true,
 use Rattle.xt_isa.specs.declared.Insn.{Insn}
 use Rattle.xt_isa.specs.declared.Insn.TheVariants as insn
 use Rattle.xt_isa.specs.declared.control.Control.TheVariants as control
-use Rattle.xt_isa.specs.declared.control.RetName.TheVariants as RetName
+use Rattle.xt_isa.specs.declared.control.ReturnName.TheVariants as ReturnName
 use Rattle.xt_isa.specs.declared.density.Density.TheVariants as density
-use Rattle.xt_isa.specs.declared.density.NarrowRetName.TheVariants as NarrowRetName
+use Rattle.xt_isa.specs.declared.density.BareName.TheVariants as BareName
 use Rattle.xt_isa.specs.declared.system.System.TheVariants as system
 use Rattle.xt_isa.specs.declared.system.UserName.TheVariants as UserName
 use Rattle.xt_map.specs.declared.access.Access.{Access}
@@ -60,20 +60,20 @@ use Rattle.xt_use_run.proofs.Specials.{SetsTo, left_fits, moved_sets, raised_fit
 -- the word that a row leaves there fits the number
 pub pointer_cut : (i : Insn) (mask x a bits t u : ℕ) → masked mask x ≡ a → masked bits t ≡ u → masked (pointer_mask i mask bits) (pointer_mask i x t) ≡ pointer_mask i a u
 unfolding pointer_mask
-pointer_cut (insn.System (system.Rur UserName.Wur r n)) mask x a bits t u h k = h
+pointer_cut (insn.System (system.User UserName.Wur r n)) mask x a bits t u h k = h
 pointer_cut _ mask x a bits t u h k = k
 
 -- ---- kinds of rows
 not_return : (code : ℕ → ℕ) (i : Insn) (pc x y u v : ℕ) (ps : Ps) (t : ℕ) (e : Effect) → outcome code i pc x y u v ps t ≡ Does e → is_return i ≡ false
 unfolding is_return outcome control_outcome density_outcome
-not_return code (insn.Control (control.Ret RetName.Retw)) pc x y u v ps t e q = absurd cc
-not_return code (insn.Density (density.Ret NarrowRetName.Retw)) pc x y u v ps t e q = absurd cc
+not_return code (insn.Control (control.Return ReturnName.Retw)) pc x y u v ps t e q = absurd cc
+not_return code (insn.Density (density.Bare BareName.Retw)) pc x y u v ps t e q = absurd cc
 not_return code _ pc x y u v ps t e q = refl
 
 asks_not_return : (code : ℕ → ℕ) (i : Insn) (pc x y u v : ℕ) (ps : Ps) (t : ℕ) (a : Access) (w : Option ReplyTarget) (e : Effect) → outcome code i pc x y u v ps t ≡ Asks a w e → is_return i ≡ false
 unfolding is_return outcome control_outcome density_outcome
-asks_not_return code (insn.Control (control.Ret RetName.Retw)) pc x y u v ps t a w e q = absurd cc
-asks_not_return code (insn.Density (density.Ret NarrowRetName.Retw)) pc x y u v ps t a w e q = absurd cc
+asks_not_return code (insn.Control (control.Return ReturnName.Retw)) pc x y u v ps t a w e q = absurd cc
+asks_not_return code (insn.Density (density.Bare BareName.Retw)) pc x y u v ps t a w e q = absurd cc
 asks_not_return code _ pc x y u v ps t a w e q = refl
 
 -- the stack pointer that ENTRY makes is a word

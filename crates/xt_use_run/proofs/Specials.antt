@@ -89,10 +89,10 @@ exchanges_mark (Some w) t n x u v e h = tt
 
 pub moved_sets : (code : ℕ → ℕ) (i : Insn) (pc x y u v : ℕ) (ps : Ps) (t : ℕ) (p : ℕ × ℕ) → moved_to i ≡ Some p → holds_marks p.1 ≡ true → SetsTo p.1 x (outcome code i pc x y u v ps t)
 unfolding moved_to outcome system_outcome
-moved_sets code (insn.System (system.Rsr SpecialName.Wsr a n)) pc x y u v ps t p e h =
+moved_sets code (insn.System (system.Special SpecialName.Wsr a n)) pc x y u v ps t p e h =
     let q : (a, n) ≡ p = ap (λ (o : Option (ℕ × ℕ)). unwrap_or o (0, 0)) e in
     subst (λ (r : ℕ × ℕ). holds_marks r.1 ≡ true → SetsTo r.1 x (writes_special (window_register n) n x v (no_change ps t))) q (writes_mark (window_register n) n x v (no_change ps t)) h
-moved_sets code (insn.System (system.Rsr SpecialName.Xsr a n)) pc x y u v ps t p e h =
+moved_sets code (insn.System (system.Special SpecialName.Xsr a n)) pc x y u v ps t p e h =
     let q : (a, n) ≡ p = ap (λ (o : Option (ℕ × ℕ)). unwrap_or o (0, 0)) e in
     subst (λ (r : ℕ × ℕ). holds_marks r.1 ≡ true → SetsTo r.1 x (exchanges_special (window_register n) a n x u v (no_change ps t))) q (exchanges_mark (window_register n) a n x u v (no_change ps t)) h
 moved_sets code _ pc x y u v ps t p e h = absurd cc

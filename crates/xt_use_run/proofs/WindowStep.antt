@@ -4,9 +4,9 @@ use Rattle.std.proofs.lemmas.Bool.{cases_Bool, cond-false, cond-true, false≢tr
 use Rattle.xt_isa.specs.declared.Insn.{Insn}
 use Rattle.xt_isa.specs.declared.Insn.TheVariants as insn
 use Rattle.xt_isa.specs.declared.control.Control.TheVariants as control
-use Rattle.xt_isa.specs.declared.control.RetName.TheVariants as RetName
+use Rattle.xt_isa.specs.declared.control.ReturnName.TheVariants as ReturnName
 use Rattle.xt_isa.specs.declared.density.Density.TheVariants as density
-use Rattle.xt_isa.specs.declared.density.NarrowRetName.TheVariants as NarrowRetName
+use Rattle.xt_isa.specs.declared.density.BareName.TheVariants as BareName
 use Rattle.xt_map.specs.declared.contents.MemoryContents.{MemoryContents}
 use Rattle.xt_map.specs.Memory.{byte_at}
 use Rattle.xt_window.specs.Ring.{visible}
@@ -43,8 +43,8 @@ use Rattle.xt_use_run.proofs.Tests.{caller_row, mismatch_row, shown_none}
 
 return_reads : (i : Insn) → is_return i ≡ true → (reads i ≡ (Some 0, None)) × (special_reads i ≡ (None, None))
 unfolding is_return reads special_reads
-return_reads (insn.Control (control.Ret RetName.Retw)) e = (refl, refl)
-return_reads (insn.Density (density.Ret NarrowRetName.Retw)) e = (refl, refl)
+return_reads (insn.Control (control.Return ReturnName.Retw)) e = (refl, refl)
+return_reads (insn.Density (density.Bare BareName.Retw)) e = (refl, refl)
 return_reads _ e = absurd (false≢true e)
 
 -- a0 has a number

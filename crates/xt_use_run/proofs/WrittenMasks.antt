@@ -62,7 +62,7 @@ module _ {written : ℕ → Bool} {frames : List Frame} {unset : List Bool} {m :
 
   pub known_pointer : (i : Insn) → Known written frames unset (pointer_written i all_bits m)
   unfolding pointer_written
-  known_pointer (insn.System (system.Rur UserName.Wur t n)) = record { seen = w.seen; wide = w.wide; kept = w.kept; special = w.special; pointer = refl; numbers = w.numbers }
+  known_pointer (insn.System (system.User UserName.Wur t n)) = record { seen = w.seen; wide = w.wide; kept = w.kept; special = w.special; pointer = refl; numbers = w.numbers }
   known_pointer _ = w
 
   pub known_special : (o : Option (ℕ × ℕ)) → Known written frames (unset_by o [] unset) (special_written o all_bits m)

@@ -152,9 +152,9 @@ stored_before r (suc p) a =
 
 -- RSIL, and RSR and XSR of PS and of EPS2 to EPS7
 unfoldable pub reads_owb : Insn → Bool
-reads_owb (insn.System (system.Rsr SpecialName.Rsr t n)) = holds_owb n
-reads_owb (insn.System (system.Rsr SpecialName.Xsr t n)) = holds_owb n
-reads_owb (insn.System (system.Rsil LevelName.Rsil t level)) = true
+reads_owb (insn.System (system.Special SpecialName.Rsr t n)) = holds_owb n
+reads_owb (insn.System (system.Special SpecialName.Xsr t n)) = holds_owb n
+reads_owb (insn.System (system.Level LevelName.Rsil t level)) = true
 reads_owb _ = false
 
 abbrev pub IsWritten : (ℕ → Bool) → FrameState → Option ℕ → Type 0

@@ -38,7 +38,7 @@ special_same (Some p) mask m = refl
 
 pointer_same : (i : Insn) (mask : ℕ) (m : ValidityBits) → Same m (pointer_written i mask m)
 unfolding pointer_written
-pointer_same (insn.System (system.Rur UserName.Wur t n)) mask m = refl
+pointer_same (insn.System (system.User UserName.Wur t n)) mask m = refl
 pointer_same _ mask m = refl
 
 visible_same : (nested : Bool) (w : Option RegWrite) (mask : ℕ) (m : ValidityBits) → Same m (visible_written nested w mask m)

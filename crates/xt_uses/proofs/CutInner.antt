@@ -70,8 +70,8 @@ second_of (Some p) n = p.1
 
 moving_holds : (i : Insn) (p : ℕ × ℕ) → moved_to i ≡ Some p → moves_marks i ≡ true → holds_marks p.1 ≡ true
 unfolding moved_to moves_marks second_of
-moving_holds (insn.System (system.Rsr SpecialName.Wsr t n)) p e h = subst (λ k. holds_marks k ≡ true) (ap (λ o. second_of o n) e) (and_parts (ltb t 4) (holds_marks n) h).1
-moving_holds (insn.System (system.Rsr SpecialName.Xsr t n)) p e h = subst (λ k. holds_marks k ≡ true) (ap (λ o. second_of o n) e) (and_parts (ltb t 4) (holds_marks n) h).1
+moving_holds (insn.System (system.Special SpecialName.Wsr t n)) p e h = subst (λ k. holds_marks k ≡ true) (ap (λ o. second_of o n) e) (and_parts (ltb t 4) (holds_marks n) h).1
+moving_holds (insn.System (system.Special SpecialName.Xsr t n)) p e h = subst (λ k. holds_marks k ≡ true) (ap (λ o. second_of o n) e) (and_parts (ltb t 4) (holds_marks n) h).1
 moving_holds _ p e h = absurd cc
 
 movsp_shown : (range : Range) (i : Insn) (k : StepKind) (g : FrameState) → is_movsp i ≡ true → g.control.ps.excm ≡ true → breaks_stack range i k g ≡ true
@@ -233,10 +233,10 @@ module _ (seen : List (Option ℕ)) (frames : List Frame) (control : Control) (u
   -- the mask of a register that receives a mark is 0
   marked_zero : (i : Insn) (a b : ℕ) (j : ℕ) → mark_read i x.saved ≡ Some j → (r : ℕ) → result_mask m.discipline i (first_word i s g) (second_word i s g) (special_operand i s g) m.threadptr r ≡ 0
   unfolding mark_read result_mask system_mask special_reads
-  marked_zero (insn.System (system.Rsr SpecialName.Rsr t n)) a b j e r =
+  marked_zero (insn.System (system.Special SpecialName.Rsr t n)) a b j e r =
       let h = w.inside.saved n j e in
       cond-true (holds_marks n) (get_or m.special n 0) (counted_bits m.discipline n) h.0 ∙ w.lost n h.0 h.1
-  marked_zero (insn.System (system.Rsr SpecialName.Xsr t n)) a b j e r =
+  marked_zero (insn.System (system.Special SpecialName.Xsr t n)) a b j e r =
       let h = w.inside.saved n j e in
       cond-true (holds_marks n) (get_or m.special n 0) (counted_bits m.discipline n) h.0 ∙ w.lost n h.0 h.1
   marked_zero _ a b j e r = absurd (none-some j e)

@@ -78,12 +78,12 @@ sets_of o = (no_set, no_set, no_set)
 pub moved_value : (code : ℕ → ℕ) (i : Insn) (p : ℕ × ℕ) (pc x y u v : ℕ) (ps : Ps) (t : ℕ) (e : Effect) → moved_to i ≡ Some p → holds_marks p.1 ≡ true
     → outcome code i pc x y u v ps t ≡ Does e → e.sets ≡ (set_to p.1 x, no_set, no_set)
 unfolding outcome system_outcome moved_to sets_of second_of
-moved_value code (insn.System (system.Rsr SpecialName.Wsr r n)) p pc x y u v ps t e m h q =
+moved_value code (insn.System (system.Special SpecialName.Wsr r n)) p pc x y u v ps t e m h q =
     let same : n ≡ p.1 = ap (λ (o : Option (ℕ × ℕ)). second_of o n) m in
     let own : holds_marks n ≡ true = subst (λ k. holds_marks k ≡ true) (sym same) h in
     let w : Does e ≡ writes_special None n x v (no_change ps t) = sym q ∙ ap (λ o. writes_special o n x v (no_change ps t)) (no_window n own) in
     ap sets_of w ∙ (one_written n own x v ∙ ap (λ k. (set_to k x, no_set, no_set)) same)
-moved_value code (insn.System (system.Rsr SpecialName.Xsr r n)) p pc x y u v ps t e m h q =
+moved_value code (insn.System (system.Special SpecialName.Xsr r n)) p pc x y u v ps t e m h q =
     let same : n ≡ p.1 = ap (λ (o : Option (ℕ × ℕ)). second_of o n) m in
     let own : holds_marks n ≡ true = subst (λ k. holds_marks k ≡ true) (sym same) h in
     let w : Does e ≡ exchanges_special None r n x u v (no_change ps t) = sym q ∙ ap (λ o. exchanges_special o r n x u v (no_change ps t)) (no_window n own) in

@@ -53,7 +53,7 @@ below n h = let between = marks_between n h in ⊎_elim (λ q. omega (arith, q))
 
 pointer_cut : (i : Insn) (given x t : ℕ) (m : ValidityBits) → masked given x ≡ x → masked m.threadptr t ≡ t → masked (pointer_written i given m).threadptr (pointer_left i x t) ≡ pointer_left i x t
 unfolding pointer_written pointer_left
-pointer_cut (insn.System (system.Rur UserName.Wur r n)) given x t m p q = p
+pointer_cut (insn.System (system.User UserName.Wur r n)) given x t m p q = p
 pointer_cut _ given x t m p q = q
 
 record SameMasks (m k : ValidityBits) : Type 0 where
@@ -64,7 +64,7 @@ record SameMasks (m k : ValidityBits) : Type 0 where
 
 pointer_same : (i : Insn) (given : ℕ) (m : ValidityBits) → SameMasks m (pointer_written i given m)
 unfolding pointer_written
-pointer_same (insn.System (system.Rur UserName.Wur r n)) given m = record { seen = refl; kept = refl; special = refl; inner = refl }
+pointer_same (insn.System (system.User UserName.Wur r n)) given m = record { seen = refl; kept = refl; special = refl; inner = refl }
 pointer_same _ given m = record { seen = refl; kept = refl; special = refl; inner = refl }
 
 module _ {seen : List (Option ℕ)} {frames : List Frame} {special : List ℕ} {unset : List Bool} {threadptr : ℕ} {nested : Option Nested} {waits : Bool} {m : ValidityBits} (w : Cut seen frames special unset threadptr nested waits m) where

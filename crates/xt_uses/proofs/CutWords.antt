@@ -215,7 +215,7 @@ amount : (i : Insn) (g : ℕ → ℕ) → g 3 < 2 ^ 6 → IsShiftAmount i (value
 unfolding special_reads
 amount (insn.Three (three.Src r s t)) g h = h
 amount (insn.Three _) g h = omega arith
-amount (insn.Shift (shift.Srl name r t)) g h = h
+amount (insn.Shift (shift.ShiftRight name r t)) g h = h
 amount (insn.Shift (shift.Sll r s)) g h = h
 amount (insn.Shift _) g h = omega arith
 amount (insn.Memory i) g h = tt

@@ -131,7 +131,7 @@ module _ (seen : List (Option ℕ)) (frames : List Frame) (control : Control) (u
       (or_from (reads_no_number i g) _ (no_numbers i g h) (not_from_true _ (used_true s g i (operands_seen s g i w.inner h))))
 
   -- one that moves a mark
-  moves_mark : (name : SpecialName) (t n : ℕ) → holds_marks n ≡ true → moves_marks (insn.System (system.Rsr name t n)) ≡ true → uses_unknown (insn.System (system.Rsr name t n)) s g ≡ false
+  moves_mark : (name : SpecialName) (t n : ℕ) → holds_marks n ≡ true → moves_marks (insn.System (system.Special name t n)) ≡ true → uses_unknown (insn.System (system.Special name t n)) s g ≡ false
   unfolding special_reads used_are_known system_used
   moves_mark SpecialName.Rsr t n h e = or_from _ _ (and_left _ _ (not_from_true _ e)) (or_from _ _ (and_right _ _ (or_from (has_no_number unset (Some n)) false (moved_number unset n h) refl)) refl)
   moves_mark SpecialName.Wsr t n h e = or_from _ _ (and_left _ _ (not_from_true _ e)) (or_from _ _ (and_right _ _ (ap (has_no_number unset) (not_changed n h))) (not_from_true _ (or_left (holds_marks n) _ h)))

@@ -29,16 +29,16 @@ module _ (by : Discipline) (pc x u : ℕ) (a : Word) (f : Fits x a) (ps : Ps) (t
 
   pub boolean_agrees : (i : Boolean) → OutcomesAgree by (insn.Boolean i) (masks i) (boolean_outcome i pc x u (no_change ps t)) (boolean_outcome i pc a.value u (no_change ps k))
   unfolding boolean_outcome boolean_mask moved_to
-  boolean_agrees (boolean.Andb LogicName.Andb r s q) = sets_agree by (insn.Boolean (boolean.Andb LogicName.Andb r s q)) (masks (boolean.Andb LogicName.Andb r s q)) ps t k p refl 4 (logic op.And (booleans u) r s q) (logic op.And (booleans u) r s q) refl
-  boolean_agrees (boolean.Andb LogicName.Andbc r s q) = sets_agree by (insn.Boolean (boolean.Andb LogicName.Andbc r s q)) (masks (boolean.Andb LogicName.Andbc r s q)) ps t k p refl 4 (logic op.AndNot (booleans u) r s q) (logic op.AndNot (booleans u) r s q) refl
-  boolean_agrees (boolean.Andb LogicName.Orb r s q) = sets_agree by (insn.Boolean (boolean.Andb LogicName.Orb r s q)) (masks (boolean.Andb LogicName.Orb r s q)) ps t k p refl 4 (logic op.Or (booleans u) r s q) (logic op.Or (booleans u) r s q) refl
-  boolean_agrees (boolean.Andb LogicName.Orbc r s q) = sets_agree by (insn.Boolean (boolean.Andb LogicName.Orbc r s q)) (masks (boolean.Andb LogicName.Orbc r s q)) ps t k p refl 4 (logic op.OrNot (booleans u) r s q) (logic op.OrNot (booleans u) r s q) refl
-  boolean_agrees (boolean.Andb LogicName.Xorb r s q) = sets_agree by (insn.Boolean (boolean.Andb LogicName.Xorb r s q)) (masks (boolean.Andb LogicName.Xorb r s q)) ps t k p refl 4 (logic op.Xor (booleans u) r s q) (logic op.Xor (booleans u) r s q) refl
-  boolean_agrees (boolean.Any4 FourName.Any4 q s) = sets_agree by (insn.Boolean (boolean.Any4 FourName.Any4 q s)) (masks (boolean.Any4 FourName.Any4 q s)) ps t k p refl 4 (group false 4 (booleans u) q s) (group false 4 (booleans u) q s) refl
-  boolean_agrees (boolean.Any4 FourName.All4 q s) = sets_agree by (insn.Boolean (boolean.Any4 FourName.All4 q s)) (masks (boolean.Any4 FourName.All4 q s)) ps t k p refl 4 (group true 4 (booleans u) q s) (group true 4 (booleans u) q s) refl
-  boolean_agrees (boolean.Any8 EightName.Any8 q s) = sets_agree by (insn.Boolean (boolean.Any8 EightName.Any8 q s)) (masks (boolean.Any8 EightName.Any8 q s)) ps t k p refl 4 (group false 8 (booleans u) q s) (group false 8 (booleans u) q s) refl
-  boolean_agrees (boolean.Any8 EightName.All8 q s) = sets_agree by (insn.Boolean (boolean.Any8 EightName.All8 q s)) (masks (boolean.Any8 EightName.All8 q s)) ps t k p refl 4 (group true 8 (booleans u) q s) (group true 8 (booleans u) q s) refl
-  boolean_agrees (boolean.Bf TestName.Bf s offset) = branches_agree by (insn.Boolean (boolean.Bf TestName.Bf s offset)) (masks (boolean.Bf TestName.Bf s offset)) ps t k p refl (holds test.BitClear u s) (holds test.BitClear u s) refl pc offset
-  boolean_agrees (boolean.Bf TestName.Bt s offset) = branches_agree by (insn.Boolean (boolean.Bf TestName.Bt s offset)) (masks (boolean.Bf TestName.Bt s offset)) ps t k p refl (holds test.BitSet u s) (holds test.BitSet u s) refl pc offset
-  boolean_agrees (boolean.Movf ChoiceName.Movf r s q) = moves_agree by (insn.Boolean (boolean.Movf ChoiceName.Movf r s q)) (masks (boolean.Movf ChoiceName.Movf r s q)) ps t k p refl (holds test.BitClear u q) (holds test.BitClear u q) refl r x a.value (fits_agree x a f)
-  boolean_agrees (boolean.Movf ChoiceName.Movt r s q) = moves_agree by (insn.Boolean (boolean.Movf ChoiceName.Movt r s q)) (masks (boolean.Movf ChoiceName.Movt r s q)) ps t k p refl (holds test.BitSet u q) (holds test.BitSet u q) refl r x a.value (fits_agree x a f)
+  boolean_agrees (boolean.Logic LogicName.Andb r s q) = sets_agree by (insn.Boolean (boolean.Logic LogicName.Andb r s q)) (masks (boolean.Logic LogicName.Andb r s q)) ps t k p refl 4 (logic op.And (booleans u) r s q) (logic op.And (booleans u) r s q) refl
+  boolean_agrees (boolean.Logic LogicName.Andbc r s q) = sets_agree by (insn.Boolean (boolean.Logic LogicName.Andbc r s q)) (masks (boolean.Logic LogicName.Andbc r s q)) ps t k p refl 4 (logic op.AndNot (booleans u) r s q) (logic op.AndNot (booleans u) r s q) refl
+  boolean_agrees (boolean.Logic LogicName.Orb r s q) = sets_agree by (insn.Boolean (boolean.Logic LogicName.Orb r s q)) (masks (boolean.Logic LogicName.Orb r s q)) ps t k p refl 4 (logic op.Or (booleans u) r s q) (logic op.Or (booleans u) r s q) refl
+  boolean_agrees (boolean.Logic LogicName.Orbc r s q) = sets_agree by (insn.Boolean (boolean.Logic LogicName.Orbc r s q)) (masks (boolean.Logic LogicName.Orbc r s q)) ps t k p refl 4 (logic op.OrNot (booleans u) r s q) (logic op.OrNot (booleans u) r s q) refl
+  boolean_agrees (boolean.Logic LogicName.Xorb r s q) = sets_agree by (insn.Boolean (boolean.Logic LogicName.Xorb r s q)) (masks (boolean.Logic LogicName.Xorb r s q)) ps t k p refl 4 (logic op.Xor (booleans u) r s q) (logic op.Xor (booleans u) r s q) refl
+  boolean_agrees (boolean.Four FourName.Any4 q s) = sets_agree by (insn.Boolean (boolean.Four FourName.Any4 q s)) (masks (boolean.Four FourName.Any4 q s)) ps t k p refl 4 (group false 4 (booleans u) q s) (group false 4 (booleans u) q s) refl
+  boolean_agrees (boolean.Four FourName.All4 q s) = sets_agree by (insn.Boolean (boolean.Four FourName.All4 q s)) (masks (boolean.Four FourName.All4 q s)) ps t k p refl 4 (group true 4 (booleans u) q s) (group true 4 (booleans u) q s) refl
+  boolean_agrees (boolean.Eight EightName.Any8 q s) = sets_agree by (insn.Boolean (boolean.Eight EightName.Any8 q s)) (masks (boolean.Eight EightName.Any8 q s)) ps t k p refl 4 (group false 8 (booleans u) q s) (group false 8 (booleans u) q s) refl
+  boolean_agrees (boolean.Eight EightName.All8 q s) = sets_agree by (insn.Boolean (boolean.Eight EightName.All8 q s)) (masks (boolean.Eight EightName.All8 q s)) ps t k p refl 4 (group true 8 (booleans u) q s) (group true 8 (booleans u) q s) refl
+  boolean_agrees (boolean.Test TestName.Bf s offset) = branches_agree by (insn.Boolean (boolean.Test TestName.Bf s offset)) (masks (boolean.Test TestName.Bf s offset)) ps t k p refl (holds test.BitClear u s) (holds test.BitClear u s) refl pc offset
+  boolean_agrees (boolean.Test TestName.Bt s offset) = branches_agree by (insn.Boolean (boolean.Test TestName.Bt s offset)) (masks (boolean.Test TestName.Bt s offset)) ps t k p refl (holds test.BitSet u s) (holds test.BitSet u s) refl pc offset
+  boolean_agrees (boolean.Choice ChoiceName.Movf r s q) = moves_agree by (insn.Boolean (boolean.Choice ChoiceName.Movf r s q)) (masks (boolean.Choice ChoiceName.Movf r s q)) ps t k p refl (holds test.BitClear u q) (holds test.BitClear u q) refl r x a.value (fits_agree x a f)
+  boolean_agrees (boolean.Choice ChoiceName.Movt r s q) = moves_agree by (insn.Boolean (boolean.Choice ChoiceName.Movt r s q)) (masks (boolean.Choice ChoiceName.Movt r s q)) ps t k p refl (holds test.BitSet u q) (holds test.BitSet u q) refl r x a.value (fits_agree x a f)

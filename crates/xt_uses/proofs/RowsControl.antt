@@ -4,7 +4,7 @@ use Rattle.std.proofs.lemmas.Bool.{and_parts}
 use Rattle.xt_isa.specs.declared.Insn.TheVariants as insn
 use Rattle.xt_isa.specs.declared.control.Control.{Control}
 use Rattle.xt_isa.specs.declared.control.Control.TheVariants as control
-use Rattle.xt_isa.specs.declared.control.RetName.TheVariants as RetName
+use Rattle.xt_isa.specs.declared.control.ReturnName.TheVariants as ReturnName
 use Rattle.xt_isa.specs.declared.control.ZeroName.TheVariants as ZeroName
 use Rattle.xt_isa.specs.declared.control.ConstName.TheVariants as ConstName
 use Rattle.xt_isa.specs.declared.control.ConstuName.TheVariants as ConstuName
@@ -42,35 +42,35 @@ module _ (by : Discipline) (pc x y : ℕ) (a b : Word) (f : Fits x a) (g : Fits 
   pub control_agrees : (i : Control) → control_used i a b ≡ true → OutcomesAgree by (insn.Control i) (masks i) (control_outcome i pc x y (no_change ps t)) (control_outcome i pc a.value b.value (no_change ps k))
   unfolding control_outcome control_used moved_to holds
   control_agrees (control.J offset) used = goes_agree by (insn.Control (control.J offset)) (masks (control.J offset)) ps t k p refl (branch_target pc offset) (branch_target pc offset) refl
-  control_agrees (control.Call0 name offset) used = calls_agree by (insn.Control (control.Call0 name offset)) (masks (control.Call0 name offset)) ps t k p refl (call_size name) (call_target pc offset) (call_target pc offset) pc refl
-  control_agrees (control.Ret RetName.Ret) used = goes_agree by (insn.Control (control.Ret RetName.Ret)) (masks (control.Ret RetName.Ret)) ps t k p refl x a.value (sym (whole_value x a f h used))
-  control_agrees (control.Ret RetName.Retw) used = ap (λ z. Windowed (Returns z)) (sym (whole_value x a f h used))
+  control_agrees (control.Call name offset) used = calls_agree by (insn.Control (control.Call name offset)) (masks (control.Call name offset)) ps t k p refl (call_size name) (call_target pc offset) (call_target pc offset) pc refl
+  control_agrees (control.Return ReturnName.Ret) used = goes_agree by (insn.Control (control.Return ReturnName.Ret)) (masks (control.Return ReturnName.Ret)) ps t k p refl x a.value (sym (whole_value x a f h used))
+  control_agrees (control.Return ReturnName.Retw) used = ap (λ z. Windowed (Returns z)) (sym (whole_value x a f h used))
   control_agrees (control.Jx s) used = goes_agree by (insn.Control (control.Jx s)) (masks (control.Jx s)) ps t k p refl x a.value (sym (whole_value x a f h used))
-  control_agrees (control.Callx0 name s) used = calls_agree by (insn.Control (control.Callx0 name s)) (masks (control.Callx0 name s)) ps t k p refl (callx_size name) x a.value pc (sym (whole_value x a f h used))
-  control_agrees (control.Beqz ZeroName.Beqz s offset) used = branches_agree by (insn.Control (control.Beqz ZeroName.Beqz s offset)) (masks (control.Beqz ZeroName.Beqz s offset)) ps t k p refl (holds test.Eq x 0) (holds test.Eq a.value 0) (ap (λ z. holds test.Eq z 0) (sym (whole_value x a f h used))) pc offset
-  control_agrees (control.Beqz ZeroName.Bnez s offset) used = branches_agree by (insn.Control (control.Beqz ZeroName.Bnez s offset)) (masks (control.Beqz ZeroName.Bnez s offset)) ps t k p refl (holds test.Ne x 0) (holds test.Ne a.value 0) (ap (λ z. holds test.Ne z 0) (sym (whole_value x a f h used))) pc offset
-  control_agrees (control.Beqz ZeroName.Bltz s offset) used = branches_agree by (insn.Control (control.Beqz ZeroName.Bltz s offset)) (masks (control.Beqz ZeroName.Bltz s offset)) ps t k p refl (holds test.Lt x 0) (holds test.Lt a.value 0) (sign_known x a f h (value_word x a f h) used) pc offset
-  control_agrees (control.Beqz ZeroName.Bgez s offset) used = branches_agree by (insn.Control (control.Beqz ZeroName.Bgez s offset)) (masks (control.Beqz ZeroName.Bgez s offset)) ps t k p refl (holds test.Ge x 0) (holds test.Ge a.value 0) (not_sign_known x a f h (value_word x a f h) used) pc offset
-  control_agrees (control.Beqi ConstName.Beqi s c offset) used = branches_agree by (insn.Control (control.Beqi ConstName.Beqi s c offset)) (masks (control.Beqi ConstName.Beqi s c offset)) ps t k p refl (holds test.Eq x (plus 0 c)) (holds test.Eq a.value (plus 0 c)) (ap (λ z. holds test.Eq z (plus 0 c)) (sym (whole_value x a f h used))) pc offset
-  control_agrees (control.Beqi ConstName.Bnei s c offset) used = branches_agree by (insn.Control (control.Beqi ConstName.Bnei s c offset)) (masks (control.Beqi ConstName.Bnei s c offset)) ps t k p refl (holds test.Ne x (plus 0 c)) (holds test.Ne a.value (plus 0 c)) (ap (λ z. holds test.Ne z (plus 0 c)) (sym (whole_value x a f h used))) pc offset
-  control_agrees (control.Beqi ConstName.Blti s c offset) used = branches_agree by (insn.Control (control.Beqi ConstName.Blti s c offset)) (masks (control.Beqi ConstName.Blti s c offset)) ps t k p refl (holds test.Lt x (plus 0 c)) (holds test.Lt a.value (plus 0 c)) (ap (λ z. holds test.Lt z (plus 0 c)) (sym (whole_value x a f h used))) pc offset
-  control_agrees (control.Beqi ConstName.Bgei s c offset) used = branches_agree by (insn.Control (control.Beqi ConstName.Bgei s c offset)) (masks (control.Beqi ConstName.Bgei s c offset)) ps t k p refl (holds test.Ge x (plus 0 c)) (holds test.Ge a.value (plus 0 c)) (ap (λ z. holds test.Ge z (plus 0 c)) (sym (whole_value x a f h used))) pc offset
-  control_agrees (control.Bltui ConstuName.Bltui s c offset) used = branches_agree by (insn.Control (control.Bltui ConstuName.Bltui s c offset)) (masks (control.Bltui ConstuName.Bltui s c offset)) ps t k p refl (holds test.Ltu x (plus 0 c)) (holds test.Ltu a.value (plus 0 c)) (ap (λ z. holds test.Ltu z (plus 0 c)) (sym (whole_value x a f h used))) pc offset
-  control_agrees (control.Bltui ConstuName.Bgeui s c offset) used = branches_agree by (insn.Control (control.Bltui ConstuName.Bgeui s c offset)) (masks (control.Bltui ConstuName.Bgeui s c offset)) ps t k p refl (holds test.Geu x (plus 0 c)) (holds test.Geu a.value (plus 0 c)) (ap (λ z. holds test.Geu z (plus 0 c)) (sym (whole_value x a f h used))) pc offset
-  control_agrees (control.Bnone BranchName.Bnone s q offset) used = branches_agree by (insn.Control (control.Bnone BranchName.Bnone s q offset)) (masks (control.Bnone BranchName.Bnone s q offset)) ps t k p refl (holds test.NoBits x y) (holds test.NoBits a.value b.value) (ap (λ z. eqb z 0) (and_known x y a b f g h l used)) pc offset
-  control_agrees (control.Bnone BranchName.Beq s q offset) used = branches_agree by (insn.Control (control.Bnone BranchName.Beq s q offset)) (masks (control.Bnone BranchName.Beq s q offset)) ps t k p refl (holds test.Eq x y) (holds test.Eq a.value b.value) (both_whole_agree (holds test.Eq) used) pc offset
-  control_agrees (control.Bnone BranchName.Blt s q offset) used = branches_agree by (insn.Control (control.Bnone BranchName.Blt s q offset)) (masks (control.Bnone BranchName.Blt s q offset)) ps t k p refl (holds test.Lt x y) (holds test.Lt a.value b.value) (both_whole_agree (holds test.Lt) used) pc offset
-  control_agrees (control.Bnone BranchName.Bltu s q offset) used = branches_agree by (insn.Control (control.Bnone BranchName.Bltu s q offset)) (masks (control.Bnone BranchName.Bltu s q offset)) ps t k p refl (holds test.Ltu x y) (holds test.Ltu a.value b.value) (both_whole_agree (holds test.Ltu) used) pc offset
-  control_agrees (control.Bnone BranchName.Ball s q offset) used = branches_agree by (insn.Control (control.Bnone BranchName.Ball s q offset)) (masks (control.Bnone BranchName.Ball s q offset)) ps t k p refl (holds test.AllBits x y) (holds test.AllBits a.value b.value) (all_known x y a b f g h l used) pc offset
-  control_agrees (control.Bnone BranchName.Bbc s q offset) used = branches_agree by (insn.Control (control.Bnone BranchName.Bbc s q offset)) (masks (control.Bnone BranchName.Bbc s q offset)) ps t k p refl (holds test.BitClear x y) (holds test.BitClear a.value b.value) (ap (λ z. eqb z 0) (tested_bit x y a b f g used)) pc offset
-  control_agrees (control.Bany OppositeName.Bany s q offset) used = branches_agree by (insn.Control (control.Bany OppositeName.Bany s q offset)) (masks (control.Bany OppositeName.Bany s q offset)) ps t k p refl (holds test.AnyBits x y) (holds test.AnyBits a.value b.value) (ap (λ z. not (eqb z 0)) (and_known x y a b f g h l used)) pc offset
-  control_agrees (control.Bany OppositeName.Bne s q offset) used = branches_agree by (insn.Control (control.Bany OppositeName.Bne s q offset)) (masks (control.Bany OppositeName.Bne s q offset)) ps t k p refl (holds test.Ne x y) (holds test.Ne a.value b.value) (both_whole_agree (holds test.Ne) used) pc offset
-  control_agrees (control.Bany OppositeName.Bge s q offset) used = branches_agree by (insn.Control (control.Bany OppositeName.Bge s q offset)) (masks (control.Bany OppositeName.Bge s q offset)) ps t k p refl (holds test.Ge x y) (holds test.Ge a.value b.value) (both_whole_agree (holds test.Ge) used) pc offset
-  control_agrees (control.Bany OppositeName.Bgeu s q offset) used = branches_agree by (insn.Control (control.Bany OppositeName.Bgeu s q offset)) (masks (control.Bany OppositeName.Bgeu s q offset)) ps t k p refl (holds test.Geu x y) (holds test.Geu a.value b.value) (both_whole_agree (holds test.Geu) used) pc offset
-  control_agrees (control.Bany OppositeName.Bnall s q offset) used = branches_agree by (insn.Control (control.Bany OppositeName.Bnall s q offset)) (masks (control.Bany OppositeName.Bnall s q offset)) ps t k p refl (holds test.NotAllBits x y) (holds test.NotAllBits a.value b.value) (ap not (all_known x y a b f g h l used)) pc offset
-  control_agrees (control.Bany OppositeName.Bbs s q offset) used = branches_agree by (insn.Control (control.Bany OppositeName.Bbs s q offset)) (masks (control.Bany OppositeName.Bbs s q offset)) ps t k p refl (holds test.BitSet x y) (holds test.BitSet a.value b.value) (ap (λ z. eqb z 1) (tested_bit x y a b f g used)) pc offset
-  control_agrees (control.Bbci BitName.Bbci s n offset) used = branches_agree by (insn.Control (control.Bbci BitName.Bbci s n offset)) (masks (control.Bbci BitName.Bbci s n offset)) ps t k p refl (holds test.BitClear x (natural n)) (holds test.BitClear a.value (natural n)) (ap (λ z. eqb z 0) (known_bit (natural n % 32) x a f used)) pc offset
-  control_agrees (control.Bbci BitName.Bbsi s n offset) used = branches_agree by (insn.Control (control.Bbci BitName.Bbsi s n offset)) (masks (control.Bbci BitName.Bbsi s n offset)) ps t k p refl (holds test.BitSet x (natural n)) (holds test.BitSet a.value (natural n)) (ap (λ z. eqb z 1) (known_bit (natural n % 32) x a f used)) pc offset
+  control_agrees (control.Callx name s) used = calls_agree by (insn.Control (control.Callx name s)) (masks (control.Callx name s)) ps t k p refl (callx_size name) x a.value pc (sym (whole_value x a f h used))
+  control_agrees (control.BranchZero ZeroName.Beqz s offset) used = branches_agree by (insn.Control (control.BranchZero ZeroName.Beqz s offset)) (masks (control.BranchZero ZeroName.Beqz s offset)) ps t k p refl (holds test.Eq x 0) (holds test.Eq a.value 0) (ap (λ z. holds test.Eq z 0) (sym (whole_value x a f h used))) pc offset
+  control_agrees (control.BranchZero ZeroName.Bnez s offset) used = branches_agree by (insn.Control (control.BranchZero ZeroName.Bnez s offset)) (masks (control.BranchZero ZeroName.Bnez s offset)) ps t k p refl (holds test.Ne x 0) (holds test.Ne a.value 0) (ap (λ z. holds test.Ne z 0) (sym (whole_value x a f h used))) pc offset
+  control_agrees (control.BranchZero ZeroName.Bltz s offset) used = branches_agree by (insn.Control (control.BranchZero ZeroName.Bltz s offset)) (masks (control.BranchZero ZeroName.Bltz s offset)) ps t k p refl (holds test.Lt x 0) (holds test.Lt a.value 0) (sign_known x a f h (value_word x a f h) used) pc offset
+  control_agrees (control.BranchZero ZeroName.Bgez s offset) used = branches_agree by (insn.Control (control.BranchZero ZeroName.Bgez s offset)) (masks (control.BranchZero ZeroName.Bgez s offset)) ps t k p refl (holds test.Ge x 0) (holds test.Ge a.value 0) (not_sign_known x a f h (value_word x a f h) used) pc offset
+  control_agrees (control.BranchConst ConstName.Beqi s c offset) used = branches_agree by (insn.Control (control.BranchConst ConstName.Beqi s c offset)) (masks (control.BranchConst ConstName.Beqi s c offset)) ps t k p refl (holds test.Eq x (plus 0 c)) (holds test.Eq a.value (plus 0 c)) (ap (λ z. holds test.Eq z (plus 0 c)) (sym (whole_value x a f h used))) pc offset
+  control_agrees (control.BranchConst ConstName.Bnei s c offset) used = branches_agree by (insn.Control (control.BranchConst ConstName.Bnei s c offset)) (masks (control.BranchConst ConstName.Bnei s c offset)) ps t k p refl (holds test.Ne x (plus 0 c)) (holds test.Ne a.value (plus 0 c)) (ap (λ z. holds test.Ne z (plus 0 c)) (sym (whole_value x a f h used))) pc offset
+  control_agrees (control.BranchConst ConstName.Blti s c offset) used = branches_agree by (insn.Control (control.BranchConst ConstName.Blti s c offset)) (masks (control.BranchConst ConstName.Blti s c offset)) ps t k p refl (holds test.Lt x (plus 0 c)) (holds test.Lt a.value (plus 0 c)) (ap (λ z. holds test.Lt z (plus 0 c)) (sym (whole_value x a f h used))) pc offset
+  control_agrees (control.BranchConst ConstName.Bgei s c offset) used = branches_agree by (insn.Control (control.BranchConst ConstName.Bgei s c offset)) (masks (control.BranchConst ConstName.Bgei s c offset)) ps t k p refl (holds test.Ge x (plus 0 c)) (holds test.Ge a.value (plus 0 c)) (ap (λ z. holds test.Ge z (plus 0 c)) (sym (whole_value x a f h used))) pc offset
+  control_agrees (control.BranchConstu ConstuName.Bltui s c offset) used = branches_agree by (insn.Control (control.BranchConstu ConstuName.Bltui s c offset)) (masks (control.BranchConstu ConstuName.Bltui s c offset)) ps t k p refl (holds test.Ltu x (plus 0 c)) (holds test.Ltu a.value (plus 0 c)) (ap (λ z. holds test.Ltu z (plus 0 c)) (sym (whole_value x a f h used))) pc offset
+  control_agrees (control.BranchConstu ConstuName.Bgeui s c offset) used = branches_agree by (insn.Control (control.BranchConstu ConstuName.Bgeui s c offset)) (masks (control.BranchConstu ConstuName.Bgeui s c offset)) ps t k p refl (holds test.Geu x (plus 0 c)) (holds test.Geu a.value (plus 0 c)) (ap (λ z. holds test.Geu z (plus 0 c)) (sym (whole_value x a f h used))) pc offset
+  control_agrees (control.Branch BranchName.Bnone s q offset) used = branches_agree by (insn.Control (control.Branch BranchName.Bnone s q offset)) (masks (control.Branch BranchName.Bnone s q offset)) ps t k p refl (holds test.NoBits x y) (holds test.NoBits a.value b.value) (ap (λ z. eqb z 0) (and_known x y a b f g h l used)) pc offset
+  control_agrees (control.Branch BranchName.Beq s q offset) used = branches_agree by (insn.Control (control.Branch BranchName.Beq s q offset)) (masks (control.Branch BranchName.Beq s q offset)) ps t k p refl (holds test.Eq x y) (holds test.Eq a.value b.value) (both_whole_agree (holds test.Eq) used) pc offset
+  control_agrees (control.Branch BranchName.Blt s q offset) used = branches_agree by (insn.Control (control.Branch BranchName.Blt s q offset)) (masks (control.Branch BranchName.Blt s q offset)) ps t k p refl (holds test.Lt x y) (holds test.Lt a.value b.value) (both_whole_agree (holds test.Lt) used) pc offset
+  control_agrees (control.Branch BranchName.Bltu s q offset) used = branches_agree by (insn.Control (control.Branch BranchName.Bltu s q offset)) (masks (control.Branch BranchName.Bltu s q offset)) ps t k p refl (holds test.Ltu x y) (holds test.Ltu a.value b.value) (both_whole_agree (holds test.Ltu) used) pc offset
+  control_agrees (control.Branch BranchName.Ball s q offset) used = branches_agree by (insn.Control (control.Branch BranchName.Ball s q offset)) (masks (control.Branch BranchName.Ball s q offset)) ps t k p refl (holds test.AllBits x y) (holds test.AllBits a.value b.value) (all_known x y a b f g h l used) pc offset
+  control_agrees (control.Branch BranchName.Bbc s q offset) used = branches_agree by (insn.Control (control.Branch BranchName.Bbc s q offset)) (masks (control.Branch BranchName.Bbc s q offset)) ps t k p refl (holds test.BitClear x y) (holds test.BitClear a.value b.value) (ap (λ z. eqb z 0) (tested_bit x y a b f g used)) pc offset
+  control_agrees (control.BranchNot OppositeName.Bany s q offset) used = branches_agree by (insn.Control (control.BranchNot OppositeName.Bany s q offset)) (masks (control.BranchNot OppositeName.Bany s q offset)) ps t k p refl (holds test.AnyBits x y) (holds test.AnyBits a.value b.value) (ap (λ z. not (eqb z 0)) (and_known x y a b f g h l used)) pc offset
+  control_agrees (control.BranchNot OppositeName.Bne s q offset) used = branches_agree by (insn.Control (control.BranchNot OppositeName.Bne s q offset)) (masks (control.BranchNot OppositeName.Bne s q offset)) ps t k p refl (holds test.Ne x y) (holds test.Ne a.value b.value) (both_whole_agree (holds test.Ne) used) pc offset
+  control_agrees (control.BranchNot OppositeName.Bge s q offset) used = branches_agree by (insn.Control (control.BranchNot OppositeName.Bge s q offset)) (masks (control.BranchNot OppositeName.Bge s q offset)) ps t k p refl (holds test.Ge x y) (holds test.Ge a.value b.value) (both_whole_agree (holds test.Ge) used) pc offset
+  control_agrees (control.BranchNot OppositeName.Bgeu s q offset) used = branches_agree by (insn.Control (control.BranchNot OppositeName.Bgeu s q offset)) (masks (control.BranchNot OppositeName.Bgeu s q offset)) ps t k p refl (holds test.Geu x y) (holds test.Geu a.value b.value) (both_whole_agree (holds test.Geu) used) pc offset
+  control_agrees (control.BranchNot OppositeName.Bnall s q offset) used = branches_agree by (insn.Control (control.BranchNot OppositeName.Bnall s q offset)) (masks (control.BranchNot OppositeName.Bnall s q offset)) ps t k p refl (holds test.NotAllBits x y) (holds test.NotAllBits a.value b.value) (ap not (all_known x y a b f g h l used)) pc offset
+  control_agrees (control.BranchNot OppositeName.Bbs s q offset) used = branches_agree by (insn.Control (control.BranchNot OppositeName.Bbs s q offset)) (masks (control.BranchNot OppositeName.Bbs s q offset)) ps t k p refl (holds test.BitSet x y) (holds test.BitSet a.value b.value) (ap (λ z. eqb z 1) (tested_bit x y a b f g used)) pc offset
+  control_agrees (control.BranchBit BitName.Bbci s n offset) used = branches_agree by (insn.Control (control.BranchBit BitName.Bbci s n offset)) (masks (control.BranchBit BitName.Bbci s n offset)) ps t k p refl (holds test.BitClear x (natural n)) (holds test.BitClear a.value (natural n)) (ap (λ z. eqb z 0) (known_bit (natural n % 32) x a f used)) pc offset
+  control_agrees (control.BranchBit BitName.Bbsi s n offset) used = branches_agree by (insn.Control (control.BranchBit BitName.Bbsi s n offset)) (masks (control.BranchBit BitName.Bbsi s n offset)) ps t k p refl (holds test.BitSet x (natural n)) (holds test.BitSet a.value (natural n)) (ap (λ z. eqb z 1) (known_bit (natural n % 32) x a f used)) pc offset
   control_agrees (control.Entry s n) used = ap (λ z. Windowed (Enters s (minus z (natural n)))) (sym (whole_value x a f h used))
   control_agrees (control.Loop LoopName.Loop s offset) used = loops_agree by (insn.Control (control.Loop LoopName.Loop s offset)) (masks (control.Loop LoopName.Loop s offset)) ps t k p refl (λ z. false) x a.value pc offset (sym (whole_value x a f h used))
   control_agrees (control.Loop LoopName.Loopnez s offset) used = loops_agree by (insn.Control (control.Loop LoopName.Loopnez s offset)) (masks (control.Loop LoopName.Loopnez s offset)) ps t k p refl (λ z. holds test.Eq z 0) x a.value pc offset (sym (whole_value x a f h used))

@@ -34,20 +34,20 @@ module _ (by : Discipline) (pc x y u : ℕ) (a b : Word) (f : Fits x a) (g : Fit
 
   pub memory_agrees : (code : ℕ → ℕ) (i : Memory) → a.mask < 2 ^ 32 → memory_used i a b ≡ true → OutcomesAgree by (insn.Memory i) (masks i) (memory_outcome code i pc x y u (no_change ps t)) (memory_outcome code i pc a.value b.value u (no_change ps k))
   unfolding memory_outcome memory_mask memory_used moved_to
-  memory_agrees code (memory.L8ui ByteName.L8ui q s offset) m used = loads_agree by (insn.Memory (memory.L8ui ByteName.L8ui q s offset)) (masks (memory.L8ui ByteName.L8ui q s offset)) ps t k p refl code 1 false q (plus x offset) (plus a.value offset) (ap (λ z. plus z offset) (sym (whole_value x a f h used)))
-  memory_agrees code (memory.L8ui ByteName.S8i q s offset) m used = stores_agree by (insn.Memory (memory.L8ui ByteName.S8i q s offset)) (masks (memory.L8ui ByteName.S8i q s offset)) ps t k p refl 1 y b.value (plus x offset) (plus a.value offset) (ap (λ z. plus z offset) (address offset used)) (fits_agree y b g)
-  memory_agrees code (memory.L16ui HalfName.L16ui q s offset) m used = loads_agree by (insn.Memory (memory.L16ui HalfName.L16ui q s offset)) (masks (memory.L16ui HalfName.L16ui q s offset)) ps t k p refl code 2 false q (plus x offset) (plus a.value offset) (ap (λ z. plus z offset) (sym (whole_value x a f h used)))
-  memory_agrees code (memory.L16ui HalfName.L16si q s offset) m used = loads_agree by (insn.Memory (memory.L16ui HalfName.L16si q s offset)) (masks (memory.L16ui HalfName.L16si q s offset)) ps t k p refl code 2 true q (plus x offset) (plus a.value offset) (ap (λ z. plus z offset) (sym (whole_value x a f h used)))
-  memory_agrees code (memory.L16ui HalfName.S16i q s offset) m used = stores_agree by (insn.Memory (memory.L16ui HalfName.S16i q s offset)) (masks (memory.L16ui HalfName.S16i q s offset)) ps t k p refl 2 y b.value (plus x offset) (plus a.value offset) (ap (λ z. plus z offset) (address offset used)) (fits_agree y b g)
-  memory_agrees code (memory.L32i WordName.L32i q s offset) m used = loads_agree by (insn.Memory (memory.L32i WordName.L32i q s offset)) (masks (memory.L32i WordName.L32i q s offset)) ps t k p refl code 4 false q (plus x offset) (plus a.value offset) (ap (λ z. plus z offset) (sym (whole_value x a f h used)))
-  memory_agrees code (memory.L32i WordName.S32i q s offset) m used = stores_agree by (insn.Memory (memory.L32i WordName.S32i q s offset)) (masks (memory.L32i WordName.S32i q s offset)) ps t k p refl 4 y b.value (plus x offset) (plus a.value offset) (ap (λ z. plus z offset) (address offset used)) (fits_agree y b g)
-  memory_agrees code (memory.L32i WordName.L32ai q s offset) m used = loads_agree by (insn.Memory (memory.L32i WordName.L32ai q s offset)) (masks (memory.L32i WordName.L32ai q s offset)) ps t k p refl code 4 false q (plus x offset) (plus a.value offset) (ap (λ z. plus z offset) (sym (whole_value x a f h used)))
-  memory_agrees code (memory.L32i WordName.S32ri q s offset) m used = stores_agree by (insn.Memory (memory.L32i WordName.S32ri q s offset)) (masks (memory.L32i WordName.S32ri q s offset)) ps t k p refl 4 y b.value (plus x offset) (plus a.value offset) (ap (λ z. plus z offset) (address offset used)) (fits_agree y b g)
+  memory_agrees code (memory.Byte ByteName.L8ui q s offset) m used = loads_agree by (insn.Memory (memory.Byte ByteName.L8ui q s offset)) (masks (memory.Byte ByteName.L8ui q s offset)) ps t k p refl code 1 false q (plus x offset) (plus a.value offset) (ap (λ z. plus z offset) (sym (whole_value x a f h used)))
+  memory_agrees code (memory.Byte ByteName.S8i q s offset) m used = stores_agree by (insn.Memory (memory.Byte ByteName.S8i q s offset)) (masks (memory.Byte ByteName.S8i q s offset)) ps t k p refl 1 y b.value (plus x offset) (plus a.value offset) (ap (λ z. plus z offset) (address offset used)) (fits_agree y b g)
+  memory_agrees code (memory.Half HalfName.L16ui q s offset) m used = loads_agree by (insn.Memory (memory.Half HalfName.L16ui q s offset)) (masks (memory.Half HalfName.L16ui q s offset)) ps t k p refl code 2 false q (plus x offset) (plus a.value offset) (ap (λ z. plus z offset) (sym (whole_value x a f h used)))
+  memory_agrees code (memory.Half HalfName.L16si q s offset) m used = loads_agree by (insn.Memory (memory.Half HalfName.L16si q s offset)) (masks (memory.Half HalfName.L16si q s offset)) ps t k p refl code 2 true q (plus x offset) (plus a.value offset) (ap (λ z. plus z offset) (sym (whole_value x a f h used)))
+  memory_agrees code (memory.Half HalfName.S16i q s offset) m used = stores_agree by (insn.Memory (memory.Half HalfName.S16i q s offset)) (masks (memory.Half HalfName.S16i q s offset)) ps t k p refl 2 y b.value (plus x offset) (plus a.value offset) (ap (λ z. plus z offset) (address offset used)) (fits_agree y b g)
+  memory_agrees code (memory.Word WordName.L32i q s offset) m used = loads_agree by (insn.Memory (memory.Word WordName.L32i q s offset)) (masks (memory.Word WordName.L32i q s offset)) ps t k p refl code 4 false q (plus x offset) (plus a.value offset) (ap (λ z. plus z offset) (sym (whole_value x a f h used)))
+  memory_agrees code (memory.Word WordName.S32i q s offset) m used = stores_agree by (insn.Memory (memory.Word WordName.S32i q s offset)) (masks (memory.Word WordName.S32i q s offset)) ps t k p refl 4 y b.value (plus x offset) (plus a.value offset) (ap (λ z. plus z offset) (address offset used)) (fits_agree y b g)
+  memory_agrees code (memory.Word WordName.L32ai q s offset) m used = loads_agree by (insn.Memory (memory.Word WordName.L32ai q s offset)) (masks (memory.Word WordName.L32ai q s offset)) ps t k p refl code 4 false q (plus x offset) (plus a.value offset) (ap (λ z. plus z offset) (sym (whole_value x a f h used)))
+  memory_agrees code (memory.Word WordName.S32ri q s offset) m used = stores_agree by (insn.Memory (memory.Word WordName.S32ri q s offset)) (masks (memory.Word WordName.S32ri q s offset)) ps t k p refl 4 y b.value (plus x offset) (plus a.value offset) (ap (λ z. plus z offset) (address offset used)) (fits_agree y b g)
   memory_agrees code (memory.S32c1i q s offset) m used =
       let both = and_parts (is_whole a) (is_whole b) used in
       swaps_agree by (insn.Memory (memory.S32c1i q s offset)) (masks (memory.S32c1i q s offset)) ps t k p refl u y b.value q (plus x offset) (plus a.value offset) (ap (λ z. plus z offset) (sym (whole_value x a f h both.0))) (sym (whole_value y b g l both.1))
-  memory_agrees code (memory.L32e WindowName.L32e q s offset) m used = loads_agree by (insn.Memory (memory.L32e WindowName.L32e q s offset)) (masks (memory.L32e WindowName.L32e q s offset)) ps t k p refl code 4 false q (plus x offset) (plus a.value offset) (ap (λ z. plus z offset) (sym (whole_value x a f h used)))
-  memory_agrees code (memory.L32e WindowName.S32e q s offset) m used = stores_agree by (insn.Memory (memory.L32e WindowName.S32e q s offset)) (masks (memory.L32e WindowName.S32e q s offset)) ps t k p refl 4 y b.value (plus x offset) (plus a.value offset) (ap (λ z. plus z offset) (address offset used)) (fits_agree y b g)
+  memory_agrees code (memory.Window WindowName.L32e q s offset) m used = loads_agree by (insn.Memory (memory.Window WindowName.L32e q s offset)) (masks (memory.Window WindowName.L32e q s offset)) ps t k p refl code 4 false q (plus x offset) (plus a.value offset) (ap (λ z. plus z offset) (sym (whole_value x a f h used)))
+  memory_agrees code (memory.Window WindowName.S32e q s offset) m used = stores_agree by (insn.Memory (memory.Window WindowName.S32e q s offset)) (masks (memory.Window WindowName.S32e q s offset)) ps t k p refl 4 y b.value (plus x offset) (plus a.value offset) (ap (λ z. plus z offset) (address offset used)) (fits_agree y b g)
   memory_agrees code (memory.L32r q offset) m used = loads_agree by (insn.Memory (memory.L32r q offset)) (masks (memory.L32r q offset)) ps t k p refl code 4 false q (literal_address pc offset) (literal_address pc offset) refl
   memory_agrees code (memory.Movi q n) m used = puts_agree by (insn.Memory (memory.Movi q n)) (masks (memory.Movi q n)) ps t k p refl q (plus 0 n) (plus 0 n) refl
   memory_agrees code (memory.Addi q s n) m used = puts_agree by (insn.Memory (memory.Addi q s n)) (masks (memory.Addi q s n)) ps t k p refl q (plus x n) (plus a.value n) (plus_agrees a.mask m x a.value n (fits_agree x a f))

@@ -7,8 +7,8 @@ use Rattle.xt_isa.specs.declared.system.System.{System}
 use Rattle.xt_isa.specs.declared.system.System.TheVariants as system
 use Rattle.xt_isa.specs.declared.system.SyncName.TheVariants as SyncName
 use Rattle.xt_isa.specs.declared.system.WaitName.TheVariants as WaitName
-use Rattle.xt_isa.specs.declared.system.ReturnName.TheVariants as ReturnName
-use Rattle.xt_isa.specs.declared.system.BreakName.TheVariants as BreakName
+use Rattle.xt_isa.specs.declared.system.ExceptionReturnName.TheVariants as ExceptionReturnName
+use Rattle.xt_isa.specs.declared.system.TrapName.TheVariants as TrapName
 use Rattle.xt_isa.specs.declared.system.LevelName.TheVariants as LevelName
 use Rattle.xt_isa.specs.declared.system.SpecialName.TheVariants as SpecialName
 use Rattle.xt_isa.specs.declared.system.UserName.TheVariants as UserName
@@ -125,44 +125,44 @@ module _ (by : Discipline) (x u v w : ℕ) (a c : Word) (f : Fits x a) (h : x < 
       by_test true e = words_of_ps by n x a.value (counted n used (ap holds_marks (eqb-true n 230 e)))
       by_test false e = refl
 
-  rsr_agrees : (q n : ℕ) (z : Option WindowRegister) → AgreeIn c.mask u c.value → OutcomesAgree by (insn.System (system.Rsr SpecialName.Rsr q n)) (masks (system.Rsr SpecialName.Rsr q n)) (reads_special z q n u (no_change ps t)) (reads_special z q n c.value (no_change ps k))
+  rsr_agrees : (q n : ℕ) (z : Option WindowRegister) → AgreeIn c.mask u c.value → OutcomesAgree by (insn.System (system.Special SpecialName.Rsr q n)) (masks (system.Special SpecialName.Rsr q n)) (reads_special z q n u (no_change ps t)) (reads_special z q n c.value (no_change ps k))
   unfolding moved_to system_mask pointer_mask
-  rsr_agrees q n None g = puts_agree by (insn.System (system.Rsr SpecialName.Rsr q n)) (masks (system.Rsr SpecialName.Rsr q n)) ps t k p refl q (value_read n u ps) (value_read n c.value ps) (value_agrees n g)
+  rsr_agrees q n None g = puts_agree by (insn.System (system.Special SpecialName.Rsr q n)) (masks (system.Special SpecialName.Rsr q n)) ps t k p refl q (value_read n u ps) (value_read n c.value ps) (value_agrees n g)
   rsr_agrees q n (Some z) g = refl
 
-  wsr_agrees : (q n : ℕ) (z : Option WindowRegister) → window_register n ≡ z → Uses n → v ≡ w → OutcomesAgree by (insn.System (system.Rsr SpecialName.Wsr q n)) (masks (system.Rsr SpecialName.Wsr q n)) (writes_special z n x v (no_change ps t)) (writes_special z n a.value w (no_change ps k))
+  wsr_agrees : (q n : ℕ) (z : Option WindowRegister) → window_register n ≡ z → Uses n → v ≡ w → OutcomesAgree by (insn.System (system.Special SpecialName.Wsr q n)) (masks (system.Special SpecialName.Wsr q n)) (writes_special z n x v (no_change ps t)) (writes_special z n a.value w (no_change ps k))
   unfolding moved_to system_mask pointer_mask
   wsr_agrees q n None e used same = record { write = tt; sets = written_agrees q n used same; ps = ps_agrees n used; threadptr = p; flow = refl; waits = refl }
   wsr_agrees q n (Some z) e used same = ap (λ y. Windowed (Sets z y)) (whole n used (window_unmarked n z e) (window_counts n z e))
 
-  xsr_agrees : (q n : ℕ) (z : Option WindowRegister) → window_register n ≡ z → AgreeIn c.mask u c.value → Uses n → v ≡ w → OutcomesAgree by (insn.System (system.Rsr SpecialName.Xsr q n)) (masks (system.Rsr SpecialName.Xsr q n)) (exchanges_special z q n x u v (no_change ps t)) (exchanges_special z q n a.value c.value w (no_change ps k))
+  xsr_agrees : (q n : ℕ) (z : Option WindowRegister) → window_register n ≡ z → AgreeIn c.mask u c.value → Uses n → v ≡ w → OutcomesAgree by (insn.System (system.Special SpecialName.Xsr q n)) (masks (system.Special SpecialName.Xsr q n)) (exchanges_special z q n x u v (no_change ps t)) (exchanges_special z q n a.value c.value w (no_change ps k))
   unfolding moved_to system_mask pointer_mask
   xsr_agrees q n None e g used same = record { write = (refl, value_agrees n g); sets = written_agrees q n used same; ps = ps_agrees n used; threadptr = p; flow = refl; waits = refl }
   xsr_agrees q n (Some z) e g used same = ap (λ y. Windowed (Exchanges z q y)) (whole n used (window_unmarked n z e) (window_counts n z e))
 
   pub system_agrees : (i : System) → in_range (insn.System i) ≡ true → SpecialFits (special_reads (insn.System i)).0 u c → OthersAgree by (special_reads (insn.System i)).1 v w → IsKnownNumber by (special_reads (insn.System i)).0 c → system_used by i a ≡ true → OutcomesAgree by (insn.System i) (masks i) (system_outcome i x u v (no_change ps t)) (system_outcome i a.value c.value w (no_change ps k))
   unfolding system_outcome system_mask system_used moved_to pointer_mask special_reads
-  system_agrees (system.Ill SyncName.Ill) range special other number used = refl
-  system_agrees (system.Ill SyncName.Isync) range special other number used = nothing_agrees by (insn.System (system.Ill SyncName.Isync)) (masks (system.Ill SyncName.Isync)) ps t k p refl
-  system_agrees (system.Ill SyncName.Rsync) range special other number used = nothing_agrees by (insn.System (system.Ill SyncName.Rsync)) (masks (system.Ill SyncName.Rsync)) ps t k p refl
-  system_agrees (system.Ill SyncName.Esync) range special other number used = nothing_agrees by (insn.System (system.Ill SyncName.Esync)) (masks (system.Ill SyncName.Esync)) ps t k p refl
-  system_agrees (system.Ill SyncName.Dsync) range special other number used = nothing_agrees by (insn.System (system.Ill SyncName.Dsync)) (masks (system.Ill SyncName.Dsync)) ps t k p refl
-  system_agrees (system.Excw WaitName.Excw) range special other number used = nothing_agrees by (insn.System (system.Excw WaitName.Excw)) (masks (system.Excw WaitName.Excw)) ps t k p refl
-  system_agrees (system.Excw WaitName.Memw) range special other number used = nothing_agrees by (insn.System (system.Excw WaitName.Memw)) (masks (system.Excw WaitName.Memw)) ps t k p refl
-  system_agrees (system.Excw WaitName.Extw) range special other number used = nothing_agrees by (insn.System (system.Excw WaitName.Extw)) (masks (system.Excw WaitName.Extw)) ps t k p refl
-  system_agrees (system.Excw WaitName.Nop) range special other number used = nothing_agrees by (insn.System (system.Excw WaitName.Nop)) (masks (system.Excw WaitName.Nop)) ps t k p refl
-  system_agrees (system.Rfe ReturnName.Rfe) range special other number used = record { write = tt; sets = refl; ps = refl; threadptr = p; flow = ap (λ z. Goes z) (special_known (special.0 refl) (number refl)); waits = refl }
-  system_agrees (system.Rfe ReturnName.Rfde) range special other number used = goes_agree by (insn.System (system.Rfe ReturnName.Rfde)) (masks (system.Rfe ReturnName.Rfde)) ps t k p refl u c.value (special_known (special.0 refl) (number refl))
-  system_agrees (system.Rfe ReturnName.Rfwo) range special other number used = ap (λ z. Windowed (EndsOverflow z)) (special_known (special.0 refl) (number refl))
-  system_agrees (system.Rfe ReturnName.Rfwu) range special other number used = ap (λ z. Windowed (EndsUnderflow z)) (special_known (special.0 refl) (number refl))
+  system_agrees (system.Sync SyncName.Ill) range special other number used = refl
+  system_agrees (system.Sync SyncName.Isync) range special other number used = nothing_agrees by (insn.System (system.Sync SyncName.Isync)) (masks (system.Sync SyncName.Isync)) ps t k p refl
+  system_agrees (system.Sync SyncName.Rsync) range special other number used = nothing_agrees by (insn.System (system.Sync SyncName.Rsync)) (masks (system.Sync SyncName.Rsync)) ps t k p refl
+  system_agrees (system.Sync SyncName.Esync) range special other number used = nothing_agrees by (insn.System (system.Sync SyncName.Esync)) (masks (system.Sync SyncName.Esync)) ps t k p refl
+  system_agrees (system.Sync SyncName.Dsync) range special other number used = nothing_agrees by (insn.System (system.Sync SyncName.Dsync)) (masks (system.Sync SyncName.Dsync)) ps t k p refl
+  system_agrees (system.Wait WaitName.Excw) range special other number used = nothing_agrees by (insn.System (system.Wait WaitName.Excw)) (masks (system.Wait WaitName.Excw)) ps t k p refl
+  system_agrees (system.Wait WaitName.Memw) range special other number used = nothing_agrees by (insn.System (system.Wait WaitName.Memw)) (masks (system.Wait WaitName.Memw)) ps t k p refl
+  system_agrees (system.Wait WaitName.Extw) range special other number used = nothing_agrees by (insn.System (system.Wait WaitName.Extw)) (masks (system.Wait WaitName.Extw)) ps t k p refl
+  system_agrees (system.Wait WaitName.Nop) range special other number used = nothing_agrees by (insn.System (system.Wait WaitName.Nop)) (masks (system.Wait WaitName.Nop)) ps t k p refl
+  system_agrees (system.ExceptionReturn ExceptionReturnName.Rfe) range special other number used = record { write = tt; sets = refl; ps = refl; threadptr = p; flow = ap (λ z. Goes z) (special_known (special.0 refl) (number refl)); waits = refl }
+  system_agrees (system.ExceptionReturn ExceptionReturnName.Rfde) range special other number used = goes_agree by (insn.System (system.ExceptionReturn ExceptionReturnName.Rfde)) (masks (system.ExceptionReturn ExceptionReturnName.Rfde)) ps t k p refl u c.value (special_known (special.0 refl) (number refl))
+  system_agrees (system.ExceptionReturn ExceptionReturnName.Rfwo) range special other number used = ap (λ z. Windowed (EndsOverflow z)) (special_known (special.0 refl) (number refl))
+  system_agrees (system.ExceptionReturn ExceptionReturnName.Rfwu) range special other number used = ap (λ z. Windowed (EndsUnderflow z)) (special_known (special.0 refl) (number refl))
   system_agrees (system.Rfi level) range special other number used = record { write = tt; sets = refl; ps = words_of_ps by (192 + natural level) v w other.1; threadptr = p; flow = ap (λ z. Goes z) (special_known (special.0 (level_counts level range)) (number (level_is_no_mark level range) ∙ counts_all by (176 + natural level) (level_counts level range))); waits = refl }
-  system_agrees (system.Break BreakName.Break level n) range special other number used = refl
-  system_agrees (system.Break BreakName.Syscall level n) range special other number used = refl
-  system_agrees (system.Rsil LevelName.Rsil q level) range special other number used = record { write = (refl, refl); sets = refl; ps = refl; threadptr = p; flow = refl; waits = refl }
-  system_agrees (system.Rsil LevelName.Waiti q level) range special other number used = record { write = tt; sets = refl; ps = refl; threadptr = p; flow = refl; waits = refl }
+  system_agrees (system.Trap TrapName.Break level n) range special other number used = refl
+  system_agrees (system.Trap TrapName.Syscall level n) range special other number used = refl
+  system_agrees (system.Level LevelName.Rsil q level) range special other number used = record { write = (refl, refl); sets = refl; ps = refl; threadptr = p; flow = refl; waits = refl }
+  system_agrees (system.Level LevelName.Waiti q level) range special other number used = record { write = tt; sets = refl; ps = refl; threadptr = p; flow = refl; waits = refl }
   system_agrees (system.Rotw n) range special other number used = refl
-  system_agrees (system.Rsr SpecialName.Rsr q n) range special other number used = rsr_agrees q n (window_register n) special.1
-  system_agrees (system.Rsr SpecialName.Wsr q n) range special other number used = wsr_agrees q n (window_register n) refl used (same_other n other)
-  system_agrees (system.Rsr SpecialName.Xsr q n) range special other number used = xsr_agrees q n (window_register n) refl special.1 used (same_other n other)
-  system_agrees (system.Rur UserName.Rur r n) range special other number used = puts_agree by (insn.System (system.Rur UserName.Rur r n)) (masks (system.Rur UserName.Rur r n)) ps t k p refl r t k p
-  system_agrees (system.Rur UserName.Wur q n) range special other number used = record { write = tt; sets = refl; ps = refl; threadptr = fits_agree x a f; flow = refl; waits = refl }
+  system_agrees (system.Special SpecialName.Rsr q n) range special other number used = rsr_agrees q n (window_register n) special.1
+  system_agrees (system.Special SpecialName.Wsr q n) range special other number used = wsr_agrees q n (window_register n) refl used (same_other n other)
+  system_agrees (system.Special SpecialName.Xsr q n) range special other number used = xsr_agrees q n (window_register n) refl special.1 used (same_other n other)
+  system_agrees (system.User UserName.Rur r n) range special other number used = puts_agree by (insn.System (system.User UserName.Rur r n)) (masks (system.User UserName.Rur r n)) ps t k p refl r t k p
+  system_agrees (system.User UserName.Wur q n) range special other number used = record { write = tt; sets = refl; ps = refl; threadptr = fits_agree x a f; flow = refl; waits = refl }

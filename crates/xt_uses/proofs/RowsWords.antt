@@ -7,14 +7,14 @@ use Rattle.xt_isa.specs.declared.Insn.{Insn}
 use Rattle.xt_isa.specs.declared.Insn.TheVariants as insn
 use Rattle.xt_isa.specs.declared.three.Three.{Three}
 use Rattle.xt_isa.specs.declared.three.Three.TheVariants as three
-use Rattle.xt_isa.specs.declared.three.AndName.TheVariants as AndName
-use Rattle.xt_isa.specs.declared.three.AddName.TheVariants as AddName
-use Rattle.xt_isa.specs.declared.three.SubName.TheVariants as SubName
+use Rattle.xt_isa.specs.declared.three.BitwiseName.TheVariants as BitwiseName
+use Rattle.xt_isa.specs.declared.three.SumName.TheVariants as SumName
+use Rattle.xt_isa.specs.declared.three.DifferenceName.TheVariants as DifferenceName
 use Rattle.xt_isa.specs.declared.shift.Shift.{Shift}
 use Rattle.xt_isa.specs.declared.shift.Shift.TheVariants as shift
-use Rattle.xt_isa.specs.declared.shift.NegName.TheVariants as NegName
-use Rattle.xt_isa.specs.declared.shift.SrlName.TheVariants as SrlName
-use Rattle.xt_isa.specs.declared.shift.SextName.TheVariants as SextName
+use Rattle.xt_isa.specs.declared.shift.SignName.TheVariants as SignName
+use Rattle.xt_isa.specs.declared.shift.ShiftRightName.TheVariants as ShiftRightName
+use Rattle.xt_isa.specs.declared.shift.SignedName.TheVariants as SignedName
 use Rattle.xt_isa.specs.declared.memory.Memory.{Memory}
 use Rattle.xt_isa.specs.declared.memory.Memory.TheVariants as memory
 use Rattle.xt_isa.specs.declared.memory.HalfName.TheVariants as HalfName
@@ -59,13 +59,13 @@ loaded_word signed reply h = moved_word (λ z. loaded_value signed z) reply h (e
 
 memory_word : (i : Memory) (a : Word) (reply : ℕ) → a.mask < 2 ^ 32 → reply < 2 ^ 32 → memory_mask i a reply < 2 ^ 32
 unfolding memory_mask
-memory_word (memory.L8ui name t s offset) a reply m h = loaded_word false reply h
-memory_word (memory.L16ui HalfName.L16ui t s offset) a reply m h = loaded_word false reply h
-memory_word (memory.L16ui HalfName.L16si t s offset) a reply m h = loaded_word true reply h
-memory_word (memory.L16ui HalfName.S16i t s offset) a reply m h = loaded_word false reply h
-memory_word (memory.L32i name t s offset) a reply m h = loaded_word false reply h
+memory_word (memory.Byte name t s offset) a reply m h = loaded_word false reply h
+memory_word (memory.Half HalfName.L16ui t s offset) a reply m h = loaded_word false reply h
+memory_word (memory.Half HalfName.L16si t s offset) a reply m h = loaded_word true reply h
+memory_word (memory.Half HalfName.S16i t s offset) a reply m h = loaded_word false reply h
+memory_word (memory.Word name t s offset) a reply m h = loaded_word false reply h
 memory_word (memory.S32c1i t s offset) a reply m h = loaded_word false reply h
-memory_word (memory.L32e name t s offset) a reply m h = loaded_word false reply h
+memory_word (memory.Window name t s offset) a reply m h = loaded_word false reply h
 memory_word (memory.L32r t offset) a reply m h = loaded_word false reply h
 memory_word (memory.Movi t n) a reply m h = all_word
 memory_word (memory.Addi t s n) a reply m h = below_word a.mask m
@@ -73,27 +73,27 @@ memory_word (memory.Addmi t s n) a reply m h = below_word a.mask m
 
 system_word : (by : Discipline) (i : System) (c : Word) (pointer : ℕ) → c.mask < 2 ^ 32 → pointer < 2 ^ 32 → system_mask by i c pointer < 2 ^ 32
 unfolding system_mask
-system_word by (system.Ill name) c pointer h g = all_word
-system_word by (system.Excw name) c pointer h g = all_word
-system_word by (system.Rfe name) c pointer h g = all_word
+system_word by (system.Sync name) c pointer h g = all_word
+system_word by (system.Wait name) c pointer h g = all_word
+system_word by (system.ExceptionReturn name) c pointer h g = all_word
 system_word by (system.Rfi level) c pointer h g = all_word
-system_word by (system.Break name level n) c pointer h g = all_word
-system_word by (system.Rsil LevelName.Rsil t level) c pointer h g = counted_word by 230
-system_word by (system.Rsil LevelName.Waiti t level) c pointer h g = all_word
+system_word by (system.Trap name level n) c pointer h g = all_word
+system_word by (system.Level LevelName.Rsil t level) c pointer h g = counted_word by 230
+system_word by (system.Level LevelName.Waiti t level) c pointer h g = all_word
 system_word by (system.Rotw n) c pointer h g = all_word
-system_word by (system.Rsr SpecialName.Rsr t n) c pointer h g = h
-system_word by (system.Rsr SpecialName.Wsr t n) c pointer h g = all_word
-system_word by (system.Rsr SpecialName.Xsr t n) c pointer h g = h
-system_word by (system.Rur UserName.Rur r n) c pointer h g = g
-system_word by (system.Rur UserName.Wur r n) c pointer h g = all_word
+system_word by (system.Special SpecialName.Rsr t n) c pointer h g = h
+system_word by (system.Special SpecialName.Wsr t n) c pointer h g = all_word
+system_word by (system.Special SpecialName.Xsr t n) c pointer h g = h
+system_word by (system.User UserName.Rur r n) c pointer h g = g
+system_word by (system.User UserName.Wur r n) c pointer h g = all_word
 
 boolean_word : (i : Boolean) (a : Word) → a.mask < 2 ^ 32 → boolean_mask i a < 2 ^ 32
 unfolding boolean_mask
-boolean_word (boolean.Andb name r s t) a h = all_word
-boolean_word (boolean.Any4 name t s) a h = all_word
-boolean_word (boolean.Any8 name t s) a h = all_word
-boolean_word (boolean.Bf name s offset) a h = all_word
-boolean_word (boolean.Movf name r s t) a h = h
+boolean_word (boolean.Logic name r s t) a h = all_word
+boolean_word (boolean.Four name t s) a h = all_word
+boolean_word (boolean.Eight name t s) a h = all_word
+boolean_word (boolean.Test name s offset) a h = all_word
+boolean_word (boolean.Choice name r s t) a h = h
 
 module _ (a b : Word) (h : a.mask < 2 ^ 32) (g : b.mask < 2 ^ 32) where
   both_word : both_mask a b < 2 ^ 32
@@ -113,53 +113,53 @@ module _ (a b : Word) (h : a.mask < 2 ^ 32) (g : b.mask < 2 ^ 32) where
 
   three_word : (i : Three) (u : ℕ) → three_mask i a b u < 2 ^ 32
   unfolding three_mask
-  three_word (three.And AndName.And r s t) u = and_word
-  three_word (three.And AndName.Or r s t) u = or_word
-  three_word (three.And AndName.Xor r s t) u = both_word
-  three_word (three.Add AddName.Add r s t) u = add_word s t a b h
-  three_word (three.Add AddName.Addx2 r s t) u = scaled_sum_word 1 a b h
-  three_word (three.Add AddName.Addx4 r s t) u = scaled_sum_word 2 a b h
-  three_word (three.Add AddName.Addx8 r s t) u = scaled_sum_word 3 a b h
-  three_word (three.Sub SubName.Sub r s t) u = sum_word a.mask b.mask h
-  three_word (three.Sub SubName.Subx2 r s t) u = scaled_sum_word 1 a b h
-  three_word (three.Sub SubName.Subx4 r s t) u = scaled_sum_word 2 a b h
-  three_word (three.Sub SubName.Subx8 r s t) u = scaled_sum_word 3 a b h
-  three_word (three.Mul16u name r s t) u = half_product_word a.mask b.mask h
+  three_word (three.Bitwise BitwiseName.And r s t) u = and_word
+  three_word (three.Bitwise BitwiseName.Or r s t) u = or_word
+  three_word (three.Bitwise BitwiseName.Xor r s t) u = both_word
+  three_word (three.Sum SumName.Add r s t) u = add_word s t a b h
+  three_word (three.Sum SumName.Addx2 r s t) u = scaled_sum_word 1 a b h
+  three_word (three.Sum SumName.Addx4 r s t) u = scaled_sum_word 2 a b h
+  three_word (three.Sum SumName.Addx8 r s t) u = scaled_sum_word 3 a b h
+  three_word (three.Difference DifferenceName.Sub r s t) u = sum_word a.mask b.mask h
+  three_word (three.Difference DifferenceName.Subx2 r s t) u = scaled_sum_word 1 a b h
+  three_word (three.Difference DifferenceName.Subx4 r s t) u = scaled_sum_word 2 a b h
+  three_word (three.Difference DifferenceName.Subx8 r s t) u = scaled_sum_word 3 a b h
+  three_word (three.Mul16 name r s t) u = half_product_word a.mask b.mask h
   three_word (three.Mull r s t) u = sum_word a.mask b.mask h
-  three_word (three.Muluh name r s t) u = where_word (is_whole a && is_whole b)
-  three_word (three.Quou name r s t) u = where_word (is_whole a && is_whole b)
-  three_word (three.Min name r s t) u = where_word (is_whole a && is_whole b)
+  three_word (three.MulHigh name r s t) u = where_word (is_whole a && is_whole b)
+  three_word (three.Divide name r s t) u = where_word (is_whole a && is_whole b)
+  three_word (three.MinMax name r s t) u = where_word (is_whole a && is_whole b)
   three_word (three.Src r s t) u = flipped_word (src (complement a.mask) (complement b.mask) u) (src_word (complement a.mask) (complement b.mask) u)
-  three_word (three.Moveqz name r s t) u = h
+  three_word (three.Move name r s t) u = h
 
   shift_word : (i : Shift) → in_range (insn.Shift i) ≡ true → (u : ℕ) → shift_mask i a u < 2 ^ 32
   unfolding shift_mask
-  shift_word (shift.Neg NegName.Neg r t) range u = below_word a.mask h
-  shift_word (shift.Neg NegName.Abs r t) range u = where_word (is_whole a)
-  shift_word (shift.Srl SrlName.Srl r t) range u = moved_word (λ z. srl z u) a.mask h (srl_moves u)
-  shift_word (shift.Srl SrlName.Sra r t) range u = moved_word (λ z. sra z u) a.mask h (sra_moves u)
+  shift_word (shift.Sign SignName.Neg r t) range u = below_word a.mask h
+  shift_word (shift.Sign SignName.Abs r t) range u = where_word (is_whole a)
+  shift_word (shift.ShiftRight ShiftRightName.Srl r t) range u = moved_word (λ z. srl z u) a.mask h (srl_moves u)
+  shift_word (shift.ShiftRight ShiftRightName.Sra r t) range u = moved_word (λ z. sra z u) a.mask h (sra_moves u)
   shift_word (shift.Sll r s) range u = moved_word (λ z. sll z u) a.mask h (sll_moves u)
   shift_word (shift.Slli r s n) range u = moved_word (λ z. slli z (natural n)) a.mask h (slli_moves (natural n))
   shift_word (shift.Srai r t n) range u = moved_word (λ z. srai z (natural n)) a.mask h (srai_moves (natural n))
   shift_word (shift.Srli r t n) range u = moved_word (λ z. srli z (natural n)) a.mask h (srli_moves (natural n))
   shift_word (shift.Extui r t n width) range u = moved_word (λ z. extui z (natural n) (natural width)) a.mask h (extui_moves (natural n) (natural width))
-  shift_word (shift.Sext SextName.Sext r s n) range u = moved_word (λ z. sext z (natural n)) a.mask h (sext_moves (natural n) (sign_number n (and_parts (two_registers r s) (natural_within 7 22 n) range).1))
-  shift_word (shift.Sext SextName.Clamps r s n) range u = where_word (is_whole a)
-  shift_word (shift.Nsa name t s) range u = where_word (is_whole a)
+  shift_word (shift.Signed SignedName.Sext r s n) range u = moved_word (λ z. sext z (natural n)) a.mask h (sext_moves (natural n) (sign_number n (and_parts (two_registers r s) (natural_within 7 22 n) range).1))
+  shift_word (shift.Signed SignedName.Clamps r s n) range u = where_word (is_whole a)
+  shift_word (shift.Normalize name t s) range u = where_word (is_whole a)
   shift_word (shift.Movsp t s) range u = where_word (is_whole a)
-  shift_word (shift.Ssr name s) range u = where_word (is_whole a)
-  shift_word (shift.Ssa8l name s) range u = where_word (is_whole a)
+  shift_word (shift.Amount name s) range u = where_word (is_whole a)
+  shift_word (shift.ByteAmount name s) range u = where_word (is_whole a)
   shift_word (shift.Ssai n) range u = where_word (is_whole a)
 
   density_word : (i : Density) (reply : ℕ) → reply < 2 ^ 32 → density_mask i a b reply < 2 ^ 32
   unfolding density_mask
-  density_word (density.L32i name t s offset) reply l = loaded_word false reply l
+  density_word (density.Word name t s offset) reply l = loaded_word false reply l
   density_word (density.Add r s t) reply l = add_word s t a b h
   density_word (density.Addi r s n) reply l = below_word a.mask h
   density_word (density.Movi s n) reply l = all_word
-  density_word (density.Beqz name s offset) reply l = all_word
+  density_word (density.BranchZero name s offset) reply l = all_word
   density_word (density.Mov t s) reply l = h
-  density_word (density.Ret name) reply l = all_word
+  density_word (density.Bare name) reply l = all_word
   density_word (density.Break n) reply l = all_word
 
   pub result_word : (by : Discipline) (i : Insn) → in_range i ≡ true → (c : Word) (pointer reply : ℕ) → c.mask < 2 ^ 32 → pointer < 2 ^ 32 → reply < 2 ^ 32 → result_mask by i a b c pointer reply < 2 ^ 32

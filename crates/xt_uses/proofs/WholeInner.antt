@@ -7,7 +7,7 @@ use Rattle.std.proofs.lemmas.Option.{none-some}
 use Rattle.xt_isa.specs.declared.Insn.{Insn}
 use Rattle.xt_isa.specs.declared.Insn.TheVariants as insn
 use Rattle.xt_isa.specs.declared.system.System.TheVariants as system
-use Rattle.xt_isa.specs.declared.system.ReturnName.TheVariants as ReturnName
+use Rattle.xt_isa.specs.declared.system.ExceptionReturnName.TheVariants as ExceptionReturnName
 use Rattle.xt_isa.specs.declared.system.SpecialName.{SpecialName}
 use Rattle.xt_map.specs.declared.access.Access.{Access}
 use Rattle.xt_special.specs.declared.ps.Ps.{Ps}
@@ -62,20 +62,20 @@ first_of (Some p) = Some p.0
 
 pub reads_moved : (i : Insn) (p : ℕ × ℕ) → moved_to i ≡ Some p → (reads i).0 ≡ Some p.0
 unfolding moved_to reads first_of
-reads_moved (insn.System (system.Rsr SpecialName.Wsr t n)) p e = ap first_of e
-reads_moved (insn.System (system.Rsr SpecialName.Xsr t n)) p e = ap first_of e
+reads_moved (insn.System (system.Special SpecialName.Wsr t n)) p e = ap first_of e
+reads_moved (insn.System (system.Special SpecialName.Xsr t n)) p e = ap first_of e
 reads_moved _ p e = absurd cc
 
 pub record IsMoving (i : Insn) : Type 0 where
   pub name : SpecialName
   pub t : ℕ
   pub n : ℕ
-  pub is : i ≡ insn.System (system.Rsr name t n)
+  pub is : i ≡ insn.System (system.Special name t n)
   pub holds : holds_marks n ≡ true
 
 pub is_moving : (i : Insn) → moves_marks i ≡ true → IsMoving i
 unfolding moves_marks
-is_moving (insn.System (system.Rsr name t n)) e = record { name = name; t = t; n = n; is = refl; holds = (and_parts (ltb t 4) (holds_marks n) e).1 }
+is_moving (insn.System (system.Special name t n)) e = record { name = name; t = t; n = n; is = refl; holds = (and_parts (ltb t 4) (holds_marks n) e).1 }
 is_moving _ e = absurd cc
 
 pub record IsEnding (i : Insn) : Type 0 where
@@ -89,13 +89,13 @@ is_ending _ e = absurd cc
 
 pub keeps_mode : (i : Insn) → disturbs_nested i ≡ false → ends_nested i ≡ false → is_windowing i ≡ false → sets_mode i ≡ false
 unfolding disturbs_nested ends_nested is_windowing sets_mode
-keeps_mode (insn.System (system.Rsr SpecialName.Wsr t n)) d e w = (or_parts (eqb n 230) _ d).0
-keeps_mode (insn.System (system.Rsr SpecialName.Xsr t n)) d e w = (or_parts (eqb n 230) _ d).0
-keeps_mode (insn.System (system.Rsil name t level)) d e w = absurd cc
-keeps_mode (insn.System (system.Rfe ReturnName.Rfe)) d e w = absurd cc
-keeps_mode (insn.System (system.Rfe ReturnName.Rfde)) d e w = absurd cc
-keeps_mode (insn.System (system.Rfe ReturnName.Rfwo)) d e w = absurd cc
-keeps_mode (insn.System (system.Rfe ReturnName.Rfwu)) d e w = absurd cc
+keeps_mode (insn.System (system.Special SpecialName.Wsr t n)) d e w = (or_parts (eqb n 230) _ d).0
+keeps_mode (insn.System (system.Special SpecialName.Xsr t n)) d e w = (or_parts (eqb n 230) _ d).0
+keeps_mode (insn.System (system.Level name t level)) d e w = absurd cc
+keeps_mode (insn.System (system.ExceptionReturn ExceptionReturnName.Rfe)) d e w = absurd cc
+keeps_mode (insn.System (system.ExceptionReturn ExceptionReturnName.Rfde)) d e w = absurd cc
+keeps_mode (insn.System (system.ExceptionReturn ExceptionReturnName.Rfwo)) d e w = absurd cc
+keeps_mode (insn.System (system.ExceptionReturn ExceptionReturnName.Rfwu)) d e w = absurd cc
 keeps_mode (insn.System (system.Rfi level)) d e w = absurd (both_ways (eqb (natural level) 5) e (not-false _ d))
 keeps_mode _ d e w = refl
 
@@ -123,9 +123,9 @@ pub record IsAlone (i : Insn) (saved : List (Option ℕ)) : Type 0 where
 
 pub stop_alone : (code : ℕ → ℕ) (i : Insn) (pc x y u v : ℕ) (ps : Ps) (t : ℕ) (saved : List (Option ℕ)) → IsStop (outcome code i pc x y u v ps t) → IsAlone i saved
 unfolding outcome system_outcome moved_to mark_read ends_nested
-stop_alone code (insn.System (system.Rsr SpecialName.Rsr r n)) pc x y u v ps t saved h = absurd (reads_on (window_register n) r n u (no_change ps t) h)
-stop_alone code (insn.System (system.Rsr SpecialName.Wsr r n)) pc x y u v ps t saved h = absurd (writes_on (window_register n) n x v (no_change ps t) h)
-stop_alone code (insn.System (system.Rsr SpecialName.Xsr r n)) pc x y u v ps t saved h = absurd (exchanges_on (window_register n) r n x u v (no_change ps t) h)
+stop_alone code (insn.System (system.Special SpecialName.Rsr r n)) pc x y u v ps t saved h = absurd (reads_on (window_register n) r n u (no_change ps t) h)
+stop_alone code (insn.System (system.Special SpecialName.Wsr r n)) pc x y u v ps t saved h = absurd (writes_on (window_register n) n x v (no_change ps t) h)
+stop_alone code (insn.System (system.Special SpecialName.Xsr r n)) pc x y u v ps t saved h = absurd (exchanges_on (window_register n) r n x u v (no_change ps t) h)
 stop_alone code (insn.System (system.Rfi level)) pc x y u v ps t saved h = absurd h
 stop_alone code _ pc x y u v ps t saved h = record { moved = refl; mark = refl; ends = refl }
 
@@ -214,8 +214,8 @@ module _ (seen : List (Option ℕ)) (frames : List Frame) (control : Control) (u
 
   mark_none : (i : Insn) → is_unset unset (special_reads i).0 ≡ false → mark_read i x.saved ≡ None
   unfolding mark_read special_reads
-  mark_none (insn.System (system.Rsr SpecialName.Rsr t n)) h = no_saved_mark n h
-  mark_none (insn.System (system.Rsr SpecialName.Xsr t n)) h = no_saved_mark n h
+  mark_none (insn.System (system.Special SpecialName.Rsr t n)) h = no_saved_mark n h
+  mark_none (insn.System (system.Special SpecialName.Xsr t n)) h = no_saved_mark n h
   mark_none _ h = refl
 
   mark_or_number : (t : ℕ) → (lacks x.seen (Some t) && lacks x.marks (Some t)) ≡ false → number_mask (get_or x.seen t None) ≡ mask_where (not (is_some (get_or x.marks t None)))
@@ -264,7 +264,7 @@ module _ (seen : List (Option ℕ)) (frames : List Frame) (control : Control) (u
           (λ holds. first ∙ ap (λ (o : Option ℕ). mask_where (not (is_some o))) (sym none), λ j at. absurd (none-some j (sym none ∙ at)))
 
   -- it moves a mark
-  mark_moved : (name : SpecialName) (t n r : ℕ) → holds_marks n ≡ true → reads_no_mark (insn.System (system.Rsr name t n)) x g ≡ false → IsMoved (insn.System (system.Rsr name t n)) r
+  mark_moved : (name : SpecialName) (t n r : ℕ) → holds_marks n ≡ true → reads_no_mark (insn.System (system.Special name t n)) x g ≡ false → IsMoved (insn.System (system.Special name t n)) r
   unfolding result_mask system_mask reads special_reads moved_to mark_read pointer_written
   mark_moved SpecialName.Rsr t n r holds h = record { mask = saved_or_number n holds h; moved = tt; pointer = λ k. refl; stored = refl }
   mark_moved SpecialName.Wsr t n r holds h = record {

@@ -7,9 +7,9 @@ use Rattle.xt_isa.specs.declared.Insn.{Insn}
 use Rattle.xt_isa.specs.declared.Insn.TheVariants as insn
 use Rattle.xt_isa.specs.declared.shift.Shift.TheVariants as shift
 use Rattle.xt_isa.specs.declared.control.Control.TheVariants as control
-use Rattle.xt_isa.specs.declared.control.RetName.TheVariants as RetName
+use Rattle.xt_isa.specs.declared.control.ReturnName.TheVariants as ReturnName
 use Rattle.xt_isa.specs.declared.density.Density.TheVariants as density
-use Rattle.xt_isa.specs.declared.density.NarrowRetName.TheVariants as NarrowRetName
+use Rattle.xt_isa.specs.declared.density.BareName.TheVariants as BareName
 use Rattle.xt_map.specs.declared.access.Access.{Access}
 use Rattle.xt_special.specs.declared.ps.Ps.{Ps}
 use Rattle.xt_special.specs.Control.{Control}
@@ -58,8 +58,8 @@ IsReturning o = ⊥
 
 return_outcome : (code : ℕ → ℕ) (i : Insn) (pc x y u v : ℕ) (ps : Ps) (t : ℕ) → is_return i ≡ true → IsReturning (outcome code i pc x y u v ps t)
 unfolding is_return outcome control_outcome density_outcome
-return_outcome code (insn.Control (control.Ret RetName.Retw)) pc x y u v ps t e = tt
-return_outcome code (insn.Density (density.Ret NarrowRetName.Retw)) pc x y u v ps t e = tt
+return_outcome code (insn.Control (control.Return ReturnName.Retw)) pc x y u v ps t e = tt
+return_outcome code (insn.Density (density.Bare BareName.Retw)) pc x y u v ps t e = tt
 return_outcome code _ pc x y u v ps t e = absurd cc
 
 -- no row but RETW returns

@@ -9,14 +9,14 @@ use Rattle.xt_isa.specs.declared.Insn.{Insn}
 use Rattle.xt_isa.specs.declared.Insn.TheVariants as insn
 use Rattle.xt_isa.specs.declared.three.Three.{Three}
 use Rattle.xt_isa.specs.declared.three.Three.TheVariants as three
-use Rattle.xt_isa.specs.declared.three.AndName.TheVariants as AndName
-use Rattle.xt_isa.specs.declared.three.AddName.TheVariants as AddName
-use Rattle.xt_isa.specs.declared.three.SubName.TheVariants as SubName
+use Rattle.xt_isa.specs.declared.three.BitwiseName.TheVariants as BitwiseName
+use Rattle.xt_isa.specs.declared.three.SumName.TheVariants as SumName
+use Rattle.xt_isa.specs.declared.three.DifferenceName.TheVariants as DifferenceName
 use Rattle.xt_isa.specs.declared.shift.Shift.{Shift}
 use Rattle.xt_isa.specs.declared.shift.Shift.TheVariants as shift
-use Rattle.xt_isa.specs.declared.shift.NegName.TheVariants as NegName
-use Rattle.xt_isa.specs.declared.shift.SrlName.TheVariants as SrlName
-use Rattle.xt_isa.specs.declared.shift.SextName.TheVariants as SextName
+use Rattle.xt_isa.specs.declared.shift.SignName.TheVariants as SignName
+use Rattle.xt_isa.specs.declared.shift.ShiftRightName.TheVariants as ShiftRightName
+use Rattle.xt_isa.specs.declared.shift.SignedName.TheVariants as SignedName
 use Rattle.xt_isa.specs.declared.memory.Memory.{Memory}
 use Rattle.xt_isa.specs.declared.memory.Memory.TheVariants as memory
 use Rattle.xt_isa.specs.declared.memory.HalfName.TheVariants as HalfName
@@ -151,34 +151,34 @@ add_whole s t a b = by_test (eqb s t)
 -- ---- masks
 three_whole : (i : Three) (a b sar : ℕ) → three_mask i (whole_word a) (whole_word b) sar ≡ all_bits
 unfolding three_mask
-three_whole (three.And AndName.And r s t) a b sar = and_whole a b
-three_whole (three.And AndName.Or r s t) a b sar = or_whole a b
-three_whole (three.And AndName.Xor r s t) a b sar = refl
-three_whole (three.Add AddName.Add r s t) a b sar = add_whole s t a b
-three_whole (three.Add AddName.Addx2 r s t) a b sar = scaled_whole 1 a b
-three_whole (three.Add AddName.Addx4 r s t) a b sar = scaled_whole 2 a b
-three_whole (three.Add AddName.Addx8 r s t) a b sar = scaled_whole 3 a b
-three_whole (three.Sub SubName.Sub r s t) a b sar = below_whole
-three_whole (three.Sub SubName.Subx2 r s t) a b sar = scaled_whole 1 a b
-three_whole (three.Sub SubName.Subx4 r s t) a b sar = scaled_whole 2 a b
-three_whole (three.Sub SubName.Subx8 r s t) a b sar = scaled_whole 3 a b
-three_whole (three.Mul16u name r s t) a b sar = below_whole
+three_whole (three.Bitwise BitwiseName.And r s t) a b sar = and_whole a b
+three_whole (three.Bitwise BitwiseName.Or r s t) a b sar = or_whole a b
+three_whole (three.Bitwise BitwiseName.Xor r s t) a b sar = refl
+three_whole (three.Sum SumName.Add r s t) a b sar = add_whole s t a b
+three_whole (three.Sum SumName.Addx2 r s t) a b sar = scaled_whole 1 a b
+three_whole (three.Sum SumName.Addx4 r s t) a b sar = scaled_whole 2 a b
+three_whole (three.Sum SumName.Addx8 r s t) a b sar = scaled_whole 3 a b
+three_whole (three.Difference DifferenceName.Sub r s t) a b sar = below_whole
+three_whole (three.Difference DifferenceName.Subx2 r s t) a b sar = scaled_whole 1 a b
+three_whole (three.Difference DifferenceName.Subx4 r s t) a b sar = scaled_whole 2 a b
+three_whole (three.Difference DifferenceName.Subx8 r s t) a b sar = scaled_whole 3 a b
+three_whole (three.Mul16 name r s t) a b sar = below_whole
 three_whole (three.Mull r s t) a b sar = below_whole
 three_whole (three.Src r s t) a b sar = ap (λ (n : ℕ). complement n) (src_none sar)
-three_whole (three.Moveqz name r s t) a b sar = refl
+three_whole (three.Move name r s t) a b sar = refl
 three_whole _ a b sar = refl
 
 shift_whole : (i : Shift) (a sar : ℕ) → shift_mask i (whole_word a) sar ≡ all_bits
 unfolding shift_mask
-shift_whole (shift.Neg NegName.Neg r t) a sar = below_whole
-shift_whole (shift.Srl SrlName.Srl r t) a sar = ap (λ (n : ℕ). complement n) (srl_none sar)
-shift_whole (shift.Srl SrlName.Sra r t) a sar = ap (λ (n : ℕ). complement n) (sra_none sar)
+shift_whole (shift.Sign SignName.Neg r t) a sar = below_whole
+shift_whole (shift.ShiftRight ShiftRightName.Srl r t) a sar = ap (λ (n : ℕ). complement n) (srl_none sar)
+shift_whole (shift.ShiftRight ShiftRightName.Sra r t) a sar = ap (λ (n : ℕ). complement n) (sra_none sar)
 shift_whole (shift.Sll r s) a sar = ap (λ (n : ℕ). complement n) (sll_none sar)
 shift_whole (shift.Slli r s n) a sar = ap (λ (n : ℕ). complement n) (slli_none (natural n))
 shift_whole (shift.Srai r t n) a sar = ap (λ (n : ℕ). complement n) (srai_none (natural n))
 shift_whole (shift.Srli r t n) a sar = ap (λ (n : ℕ). complement n) (srli_none (natural n))
 shift_whole (shift.Extui r t n width) a sar = ap (λ (n : ℕ). complement n) (extui_none (natural n) (natural width))
-shift_whole (shift.Sext SextName.Sext r s b) a sar = ap (λ (n : ℕ). complement n) (sext_none (natural b))
+shift_whole (shift.Signed SignedName.Sext r s b) a sar = ap (λ (n : ℕ). complement n) (sext_none (natural b))
 shift_whole _ a sar = refl
 
 loaded_whole : (signed : Bool) → loaded_mask signed all_bits ≡ all_bits
@@ -186,7 +186,7 @@ loaded_whole signed = ap (λ (n : ℕ). complement n) (extended_none signed)
 
 memory_whole : (i : Memory) (a : ℕ) → memory_mask i (whole_word a) all_bits ≡ all_bits
 unfolding memory_mask
-memory_whole (memory.L16ui HalfName.L16si t s offset) a = loaded_whole true
+memory_whole (memory.Half HalfName.L16si t s offset) a = loaded_whole true
 memory_whole (memory.Movi t n) a = refl
 memory_whole (memory.Addi t s n) a = below_whole
 memory_whole (memory.Addmi t s n) a = below_whole
@@ -194,22 +194,22 @@ memory_whole _ a = loaded_whole false
 
 system_whole : (i : System) (c : ℕ) → system_mask Lenient i (whole_word c) all_bits ≡ all_bits
 unfolding system_mask
-system_whole (system.Rsil LevelName.Rsil t level) c = refl
-system_whole (system.Rsr SpecialName.Rsr t n) c = refl
-system_whole (system.Rsr SpecialName.Xsr t n) c = refl
-system_whole (system.Rur UserName.Rur r n) c = refl
+system_whole (system.Level LevelName.Rsil t level) c = refl
+system_whole (system.Special SpecialName.Rsr t n) c = refl
+system_whole (system.Special SpecialName.Xsr t n) c = refl
+system_whole (system.User UserName.Rur r n) c = refl
 system_whole _ c = refl
 
 density_whole : (i : Density) (a b : ℕ) → density_mask i (whole_word a) (whole_word b) all_bits ≡ all_bits
 unfolding density_mask
-density_whole (density.L32i name t s offset) a b = loaded_whole false
+density_whole (density.Word name t s offset) a b = loaded_whole false
 density_whole (density.Add r s t) a b = add_whole s t a b
 density_whole (density.Addi r s n) a b = below_whole
 density_whole _ a b = refl
 
 boolean_whole : (i : Boolean) (a : ℕ) → boolean_mask i (whole_word a) ≡ all_bits
 unfolding boolean_mask
-boolean_whole (boolean.Movf name r s t) a = refl
+boolean_whole (boolean.Choice name r s t) a = refl
 boolean_whole _ a = refl
 
 pub result_whole : (i : Insn) (a b c : ℕ) → result_mask Lenient i (whole_word a) (whole_word b) (whole_word c) all_bits all_bits ≡ all_bits
@@ -247,55 +247,55 @@ not_test a b = both_test (zeros (whole_word a)) b
 
 three_used_whole : (i : Three) (a b : ℕ) → three_used i (whole_word a) (whole_word b) ≡ true
 unfolding three_used
-three_used_whole (three.Quou name r s t) a b = refl
-three_used_whole (three.Moveqz MoveName.Moveqz r s t) a b = refl
-three_used_whole (three.Moveqz MoveName.Movnez r s t) a b = refl
-three_used_whole (three.Moveqz MoveName.Movltz r s t) a b = refl
-three_used_whole (three.Moveqz MoveName.Movgez r s t) a b = refl
+three_used_whole (three.Divide name r s t) a b = refl
+three_used_whole (three.Move MoveName.Moveqz r s t) a b = refl
+three_used_whole (three.Move MoveName.Movnez r s t) a b = refl
+three_used_whole (three.Move MoveName.Movltz r s t) a b = refl
+three_used_whole (three.Move MoveName.Movgez r s t) a b = refl
 three_used_whole _ a b = refl
 
 shift_used_whole : (i : Shift) (a : ℕ) → shift_used i (whole_word a) ≡ true
 unfolding shift_used
-shift_used_whole (shift.Ssr name s) a = refl
-shift_used_whole (shift.Ssa8l name s) a = refl
+shift_used_whole (shift.Amount name s) a = refl
+shift_used_whole (shift.ByteAmount name s) a = refl
 shift_used_whole (shift.Movsp t s) a = refl
 shift_used_whole _ a = refl
 
 memory_used_whole : (i : Memory) (a b : ℕ) → memory_used i (whole_word a) (whole_word b) ≡ true
 unfolding memory_used
-memory_used_whole (memory.L8ui ByteName.L8ui t s offset) a b = refl
-memory_used_whole (memory.L8ui ByteName.S8i t s offset) a b = store_whole a b offset
-memory_used_whole (memory.L16ui HalfName.L16ui t s offset) a b = refl
-memory_used_whole (memory.L16ui HalfName.L16si t s offset) a b = refl
-memory_used_whole (memory.L16ui HalfName.S16i t s offset) a b = store_whole a b offset
-memory_used_whole (memory.L32i WordName.L32i t s offset) a b = refl
-memory_used_whole (memory.L32i WordName.S32i t s offset) a b = store_whole a b offset
-memory_used_whole (memory.L32i WordName.L32ai t s offset) a b = refl
-memory_used_whole (memory.L32i WordName.S32ri t s offset) a b = store_whole a b offset
+memory_used_whole (memory.Byte ByteName.L8ui t s offset) a b = refl
+memory_used_whole (memory.Byte ByteName.S8i t s offset) a b = store_whole a b offset
+memory_used_whole (memory.Half HalfName.L16ui t s offset) a b = refl
+memory_used_whole (memory.Half HalfName.L16si t s offset) a b = refl
+memory_used_whole (memory.Half HalfName.S16i t s offset) a b = store_whole a b offset
+memory_used_whole (memory.Word WordName.L32i t s offset) a b = refl
+memory_used_whole (memory.Word WordName.S32i t s offset) a b = store_whole a b offset
+memory_used_whole (memory.Word WordName.L32ai t s offset) a b = refl
+memory_used_whole (memory.Word WordName.S32ri t s offset) a b = store_whole a b offset
 memory_used_whole (memory.S32c1i t s offset) a b = refl
-memory_used_whole (memory.L32e WindowName.L32e t s offset) a b = refl
-memory_used_whole (memory.L32e WindowName.S32e t s offset) a b = store_whole a b offset
+memory_used_whole (memory.Window WindowName.L32e t s offset) a b = refl
+memory_used_whole (memory.Window WindowName.S32e t s offset) a b = store_whole a b offset
 memory_used_whole _ a b = refl
 
 control_used_whole : (i : Control) (a b : ℕ) → control_used i (whole_word a) (whole_word b) ≡ true
 unfolding control_used
-control_used_whole (control.Beqz ZeroName.Beqz s offset) a b = refl
-control_used_whole (control.Beqz ZeroName.Bnez s offset) a b = refl
-control_used_whole (control.Beqz ZeroName.Bltz s offset) a b = refl
-control_used_whole (control.Beqz ZeroName.Bgez s offset) a b = refl
-control_used_whole (control.Bnone BranchName.Bnone s t offset) a b = both_test a b
-control_used_whole (control.Bnone BranchName.Ball s t offset) a b = not_test a b
-control_used_whole (control.Bnone BranchName.Bbc s t offset) a b = test_whole a b
-control_used_whole (control.Bnone BranchName.Beq s t offset) a b = refl
-control_used_whole (control.Bnone BranchName.Blt s t offset) a b = refl
-control_used_whole (control.Bnone BranchName.Bltu s t offset) a b = refl
-control_used_whole (control.Bany OppositeName.Bany s t offset) a b = both_test a b
-control_used_whole (control.Bany OppositeName.Bnall s t offset) a b = not_test a b
-control_used_whole (control.Bany OppositeName.Bbs s t offset) a b = test_whole a b
-control_used_whole (control.Bany OppositeName.Bne s t offset) a b = refl
-control_used_whole (control.Bany OppositeName.Bge s t offset) a b = refl
-control_used_whole (control.Bany OppositeName.Bgeu s t offset) a b = refl
-control_used_whole (control.Bbci name s k offset) a b = knows_whole (bit_number (natural k)) a (bit_small (natural k))
+control_used_whole (control.BranchZero ZeroName.Beqz s offset) a b = refl
+control_used_whole (control.BranchZero ZeroName.Bnez s offset) a b = refl
+control_used_whole (control.BranchZero ZeroName.Bltz s offset) a b = refl
+control_used_whole (control.BranchZero ZeroName.Bgez s offset) a b = refl
+control_used_whole (control.Branch BranchName.Bnone s t offset) a b = both_test a b
+control_used_whole (control.Branch BranchName.Ball s t offset) a b = not_test a b
+control_used_whole (control.Branch BranchName.Bbc s t offset) a b = test_whole a b
+control_used_whole (control.Branch BranchName.Beq s t offset) a b = refl
+control_used_whole (control.Branch BranchName.Blt s t offset) a b = refl
+control_used_whole (control.Branch BranchName.Bltu s t offset) a b = refl
+control_used_whole (control.BranchNot OppositeName.Bany s t offset) a b = both_test a b
+control_used_whole (control.BranchNot OppositeName.Bnall s t offset) a b = not_test a b
+control_used_whole (control.BranchNot OppositeName.Bbs s t offset) a b = test_whole a b
+control_used_whole (control.BranchNot OppositeName.Bne s t offset) a b = refl
+control_used_whole (control.BranchNot OppositeName.Bge s t offset) a b = refl
+control_used_whole (control.BranchNot OppositeName.Bgeu s t offset) a b = refl
+control_used_whole (control.BranchBit name s k offset) a b = knows_whole (bit_number (natural k)) a (bit_small (natural k))
 control_used_whole _ a b = refl
 
 counted_whole : (by : Discipline) (n a : ℕ) → knows (counted_bits by n) (whole_word a) ≡ true
@@ -307,16 +307,16 @@ counted_whole by n a = by_test (holds_owb n && is_strict by)
 
 system_used_whole : (by : Discipline) (i : System) (a : ℕ) → system_used by i (whole_word a) ≡ true
 unfolding system_used
-system_used_whole by (system.Rsr SpecialName.Wsr t n) a = or_right (holds_marks n) _ (counted_whole by n a)
-system_used_whole by (system.Rsr SpecialName.Xsr t n) a = or_right (holds_marks n) _ (counted_whole by n a)
+system_used_whole by (system.Special SpecialName.Wsr t n) a = or_right (holds_marks n) _ (counted_whole by n a)
+system_used_whole by (system.Special SpecialName.Xsr t n) a = or_right (holds_marks n) _ (counted_whole by n a)
 system_used_whole by _ a = refl
 
 density_used_whole : (i : Density) (a b : ℕ) → density_used i (whole_word a) (whole_word b) ≡ true
 unfolding density_used
-density_used_whole (density.L32i NarrowName.L32i t s offset) a b = refl
-density_used_whole (density.L32i NarrowName.S32i t s offset) a b = store_whole a b offset
-density_used_whole (density.Beqz name s offset) a b = refl
-density_used_whole (density.Ret name) a b = refl
+density_used_whole (density.Word NarrowName.L32i t s offset) a b = refl
+density_used_whole (density.Word NarrowName.S32i t s offset) a b = store_whole a b offset
+density_used_whole (density.BranchZero name s offset) a b = refl
+density_used_whole (density.Bare name) a b = refl
 density_used_whole _ a b = refl
 
 pub used_whole : (by : Discipline) (i : Insn) (a b : ℕ) → used_are_known by i (whole_word a) (whole_word b) ≡ true

@@ -74,7 +74,7 @@ masks_whole f m w = record { seen = w.seen_masks; kept = w.kept; special = w.spe
 module _ {seen : List (Option ℕ)} {frames : List Frame} {unset : List Bool} {nested : Option Nested} {waits : Bool} {m : ValidityBits} (w : Whole seen frames unset nested waits m) where
   pub whole_pointer : (i : Insn) → Whole seen frames unset nested waits (pointer_written i all_bits m)
   unfolding pointer_written
-  whole_pointer (insn.System (system.Rur UserName.Wur t n)) = record { seen_masks = w.seen_masks; kept = w.kept; special = w.special; threadptr = refl; inner = w.inner; count = w.count; holes = w.holes; wide = w.wide; full = w.full; inside = w.inside }
+  whole_pointer (insn.System (system.User UserName.Wur t n)) = record { seen_masks = w.seen_masks; kept = w.kept; special = w.special; threadptr = refl; inner = w.inner; count = w.count; holes = w.holes; wide = w.wide; full = w.full; inside = w.inside }
   whole_pointer _ = w
 
   -- ---- a nested interrupt ends

@@ -9,14 +9,14 @@ use Rattle.xt_isa.specs.declared.Insn.{Insn}
 use Rattle.xt_isa.specs.declared.Insn.TheVariants as insn
 use Rattle.xt_isa.specs.declared.three.Three.{Three}
 use Rattle.xt_isa.specs.declared.three.Three.TheVariants as three
-use Rattle.xt_isa.specs.declared.three.AndName.TheVariants as AndName
-use Rattle.xt_isa.specs.declared.three.AddName.TheVariants as AddName
-use Rattle.xt_isa.specs.declared.three.SubName.TheVariants as SubName
+use Rattle.xt_isa.specs.declared.three.BitwiseName.TheVariants as BitwiseName
+use Rattle.xt_isa.specs.declared.three.SumName.TheVariants as SumName
+use Rattle.xt_isa.specs.declared.three.DifferenceName.TheVariants as DifferenceName
 use Rattle.xt_isa.specs.declared.shift.Shift.{Shift}
 use Rattle.xt_isa.specs.declared.shift.Shift.TheVariants as shift
-use Rattle.xt_isa.specs.declared.shift.NegName.TheVariants as NegName
-use Rattle.xt_isa.specs.declared.shift.SrlName.TheVariants as SrlName
-use Rattle.xt_isa.specs.declared.shift.SextName.TheVariants as SextName
+use Rattle.xt_isa.specs.declared.shift.SignName.TheVariants as SignName
+use Rattle.xt_isa.specs.declared.shift.ShiftRightName.TheVariants as ShiftRightName
+use Rattle.xt_isa.specs.declared.shift.SignedName.TheVariants as SignedName
 use Rattle.xt_isa.specs.declared.memory.Memory.{Memory}
 use Rattle.xt_isa.specs.declared.memory.Memory.TheVariants as memory
 use Rattle.xt_isa.specs.declared.memory.HalfName.TheVariants as HalfName
@@ -67,36 +67,38 @@ abbrev pub src_mask : Word → Word → ℕ → ℕ
 src_mask x y sar = complement (src (complement x.mask) (complement y.mask) sar)
 
 unfoldable pub three_mask : Three → Word → Word → ℕ → ℕ
-three_mask (three.And AndName.And r s t) x y sar = and_mask x y
-three_mask (three.And AndName.Or r s t) x y sar = or_mask x y
-three_mask (three.And AndName.Xor r s t) x y sar = both_mask x y
-three_mask (three.Add AddName.Add r s t) x y sar = add_mask s t x y
-three_mask (three.Add AddName.Addx2 r s t) x y sar = scaled_sum 1 x y
-three_mask (three.Add AddName.Addx4 r s t) x y sar = scaled_sum 2 x y
-three_mask (three.Add AddName.Addx8 r s t) x y sar = scaled_sum 3 x y
-three_mask (three.Sub SubName.Sub r s t) x y sar = sum_mask x.mask y.mask
-three_mask (three.Sub SubName.Subx2 r s t) x y sar = scaled_sum 1 x y
-three_mask (three.Sub SubName.Subx4 r s t) x y sar = scaled_sum 2 x y
-three_mask (three.Sub SubName.Subx8 r s t) x y sar = scaled_sum 3 x y
-three_mask (three.Mul16u name r s t) x y sar = sum_mask (half_mask x.mask) (half_mask y.mask)
+three_mask (three.Bitwise BitwiseName.And r s t) x y sar = and_mask x y
+three_mask (three.Bitwise BitwiseName.Or r s t) x y sar = or_mask x y
+three_mask (three.Bitwise BitwiseName.Xor r s t) x y sar = both_mask x y
+three_mask (three.Sum SumName.Add r s t) x y sar = add_mask s t x y
+three_mask (three.Sum SumName.Addx2 r s t) x y sar = scaled_sum 1 x y
+three_mask (three.Sum SumName.Addx4 r s t) x y sar = scaled_sum 2 x y
+three_mask (three.Sum SumName.Addx8 r s t) x y sar = scaled_sum 3 x y
+three_mask (three.Difference DifferenceName.Sub r s t) x y sar = sum_mask x.mask y.mask
+three_mask (three.Difference DifferenceName.Subx2 r s t) x y sar = scaled_sum 1 x y
+three_mask (three.Difference DifferenceName.Subx4 r s t) x y sar = scaled_sum 2 x y
+three_mask (three.Difference DifferenceName.Subx8 r s t) x y sar = scaled_sum 3 x y
+three_mask (three.Mul16 name r s t) x y sar = sum_mask (half_mask x.mask) (half_mask y.mask)
 three_mask (three.Mull r s t) x y sar = sum_mask x.mask y.mask
 three_mask (three.Src r s t) x y sar = src_mask x y sar
-three_mask (three.Moveqz name r s t) x y sar = x.mask
+three_mask (three.Move name r s t) x y sar = x.mask
 three_mask _ x y sar = where_both x y
 
 -- ---- shifts, and one source: x is its word
 
 unfoldable pub shift_mask : Shift → Word → ℕ → ℕ
-shift_mask (shift.Neg NegName.Neg r t) x sar = below_unknown x.mask
-shift_mask (shift.Srl SrlName.Srl r t) x sar = moved_mask (λ bits. srl bits sar) x.mask
-shift_mask (shift.Srl SrlName.Sra r t) x sar = moved_mask (λ bits. sra bits sar) x.mask
+shift_mask (shift.Sign SignName.Neg r t) x sar = below_unknown x.mask
+shift_mask (shift.ShiftRight ShiftRightName.Srl r t) x sar =
+  moved_mask (λ bits. srl bits sar) x.mask
+shift_mask (shift.ShiftRight ShiftRightName.Sra r t) x sar =
+  moved_mask (λ bits. sra bits sar) x.mask
 shift_mask (shift.Sll r s) x sar = moved_mask (λ bits. sll bits sar) x.mask
 shift_mask (shift.Slli r s n) x sar = moved_mask (λ bits. slli bits (natural n)) x.mask
 shift_mask (shift.Srai r t n) x sar = moved_mask (λ bits. srai bits (natural n)) x.mask
 shift_mask (shift.Srli r t n) x sar = moved_mask (λ bits. srli bits (natural n)) x.mask
 shift_mask (shift.Extui r t n width) x sar =
     moved_mask (λ bits. extui bits (natural n) (natural width)) x.mask
-shift_mask (shift.Sext SextName.Sext r s b) x sar =
+shift_mask (shift.Signed SignedName.Sext r s b) x sar =
     moved_mask (λ bits. sext bits (natural b)) x.mask
 shift_mask _ x sar = mask_where (is_whole x)
 
@@ -107,12 +109,12 @@ abbrev pub loaded_mask : Bool → ℕ → ℕ
 loaded_mask signed reply = moved_mask (λ bits. loaded_value signed bits) reply
 
 unfoldable pub memory_mask : Memory → Word → ℕ → ℕ
-memory_mask (memory.L8ui name t s offset) x reply = loaded_mask false reply
-memory_mask (memory.L16ui HalfName.L16si t s offset) x reply = loaded_mask true reply
-memory_mask (memory.L16ui name t s offset) x reply = loaded_mask false reply
-memory_mask (memory.L32i name t s offset) x reply = loaded_mask false reply
+memory_mask (memory.Byte name t s offset) x reply = loaded_mask false reply
+memory_mask (memory.Half HalfName.L16si t s offset) x reply = loaded_mask true reply
+memory_mask (memory.Half name t s offset) x reply = loaded_mask false reply
+memory_mask (memory.Word name t s offset) x reply = loaded_mask false reply
 memory_mask (memory.S32c1i t s offset) x reply = loaded_mask false reply
-memory_mask (memory.L32e name t s offset) x reply = loaded_mask false reply
+memory_mask (memory.Window name t s offset) x reply = loaded_mask false reply
 memory_mask (memory.L32r t offset) x reply = loaded_mask false reply
 memory_mask (memory.Movi t n) x reply = all_bits
 memory_mask (memory.Addi t s n) x reply = below_unknown x.mask
@@ -122,16 +124,16 @@ memory_mask (memory.Addmi t s n) x reply = below_unknown x.mask
 -- RSIL reads PS.
 
 unfoldable pub system_mask : Discipline → System → Word → ℕ → ℕ
-system_mask d (system.Rsr SpecialName.Rsr t n) u pointer = u.mask
-system_mask d (system.Rsr SpecialName.Xsr t n) u pointer = u.mask
-system_mask d (system.Rsil LevelName.Rsil t level) u pointer = counted_bits d number.ps
-system_mask d (system.Rur UserName.Rur r n) u pointer = pointer
+system_mask d (system.Special SpecialName.Rsr t n) u pointer = u.mask
+system_mask d (system.Special SpecialName.Xsr t n) u pointer = u.mask
+system_mask d (system.Level LevelName.Rsil t level) u pointer = counted_bits d number.ps
+system_mask d (system.User UserName.Rur r n) u pointer = pointer
 system_mask d _ u pointer = all_bits
 
 -- ---- the 16-bit instructions: x is AR[s], y is AR[t]
 
 unfoldable pub density_mask : Density → Word → Word → ℕ → ℕ
-density_mask (density.L32i name t s offset) x y reply = loaded_mask false reply
+density_mask (density.Word name t s offset) x y reply = loaded_mask false reply
 density_mask (density.Add r s t) x y reply = add_mask s t x y
 density_mask (density.Addi r s n) x y reply = below_unknown x.mask
 density_mask (density.Mov t s) x y reply = x.mask
@@ -142,7 +144,7 @@ density_mask _ x y reply = all_bits
 -- instructions that write no register have a mask here that nothing takes.
 
 unfoldable pub boolean_mask : Boolean → Word → ℕ
-boolean_mask (boolean.Movf name r s t) x = x.mask
+boolean_mask (boolean.Choice name r s t) x = x.mask
 boolean_mask _ x = all_bits
 
 unfoldable pub result_mask : Discipline → Insn → Word → Word → Word → ℕ → ℕ → ℕ

@@ -96,7 +96,7 @@ counted_ps d ps = if is_strict d then record ps { owb = 0 } else ps
 
 -- the mask of THREADPTR after a row
 unfoldable pub pointer_mask : Insn → ℕ → ℕ → ℕ
-pointer_mask (insn.System (system.Rur UserName.Wur t n)) given pointer = given
+pointer_mask (insn.System (system.User UserName.Wur t n)) given pointer = given
 pointer_mask _ given pointer = pointer
 
 -- the masks of the written register, of the first operand, of THREADPTR and of the stored register

@@ -119,7 +119,7 @@ special_written (Some p) mask m = record m { special = slice_set m.special p.1 m
 
 -- and WUR THREADPTR
 unfoldable pub pointer_written : Insn → ℕ → ValidityBits → ValidityBits
-pointer_written (insn.System (system.Rur UserName.Wur t n)) mask m = record m { threadptr = mask }
+pointer_written (insn.System (system.User UserName.Wur t n)) mask m = record m { threadptr = mask }
 pointer_written _ mask m = m
 
 -- after an instruction that was executed by this step of f, where the register that it writes gets

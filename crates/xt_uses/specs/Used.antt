@@ -69,19 +69,19 @@ counted_bits d n = if holds_owb n && is_strict d then 0xFFFFF0FF else all_bits
 -- The divisor is used, since 0 raises a cause. A conditional move uses its condition.
 
 unfoldable pub three_used : Three → Word → Word → Bool
-three_used (three.Quou name r s t) x y = is_whole y
-three_used (three.Moveqz MoveName.Moveqz r s t) x y = is_whole y
-three_used (three.Moveqz MoveName.Movnez r s t) x y = is_whole y
-three_used (three.Moveqz MoveName.Movltz r s t) x y = knows sign_bit y
-three_used (three.Moveqz MoveName.Movgez r s t) x y = knows sign_bit y
+three_used (three.Divide name r s t) x y = is_whole y
+three_used (three.Move MoveName.Moveqz r s t) x y = is_whole y
+three_used (three.Move MoveName.Movnez r s t) x y = is_whole y
+three_used (three.Move MoveName.Movltz r s t) x y = knows sign_bit y
+three_used (three.Move MoveName.Movgez r s t) x y = knows sign_bit y
 three_used _ x y = true
 
 -- ---- shifts, and one source: x is its word
 -- SSR and SSL, SSA8L and SSA8B put bits into SAR.
 
 unfoldable pub shift_used : Shift → Word → Bool
-shift_used (shift.Ssr name s) x = knows (low_bits 5) x
-shift_used (shift.Ssa8l name s) x = knows (low_bits 2) x
+shift_used (shift.Amount name s) x = knows (low_bits 5) x
+shift_used (shift.ByteAmount name s) x = knows (low_bits 2) x
 shift_used (shift.Movsp t s) x = is_whole x
 shift_used _ x = true
 
@@ -94,18 +94,18 @@ store_used x y offset =
     && (if plus x.value offset == uart_transmit then knows (low_bits 8) y else true)
 
 unfoldable pub memory_used : Memory → Word → Word → Bool
-memory_used (memory.L8ui ByteName.L8ui t s offset) x y = is_whole x
-memory_used (memory.L8ui ByteName.S8i t s offset) x y = store_used x y offset
-memory_used (memory.L16ui HalfName.L16ui t s offset) x y = is_whole x
-memory_used (memory.L16ui HalfName.L16si t s offset) x y = is_whole x
-memory_used (memory.L16ui HalfName.S16i t s offset) x y = store_used x y offset
-memory_used (memory.L32i WordName.L32i t s offset) x y = is_whole x
-memory_used (memory.L32i WordName.S32i t s offset) x y = store_used x y offset
-memory_used (memory.L32i WordName.L32ai t s offset) x y = is_whole x
-memory_used (memory.L32i WordName.S32ri t s offset) x y = store_used x y offset
+memory_used (memory.Byte ByteName.L8ui t s offset) x y = is_whole x
+memory_used (memory.Byte ByteName.S8i t s offset) x y = store_used x y offset
+memory_used (memory.Half HalfName.L16ui t s offset) x y = is_whole x
+memory_used (memory.Half HalfName.L16si t s offset) x y = is_whole x
+memory_used (memory.Half HalfName.S16i t s offset) x y = store_used x y offset
+memory_used (memory.Word WordName.L32i t s offset) x y = is_whole x
+memory_used (memory.Word WordName.S32i t s offset) x y = store_used x y offset
+memory_used (memory.Word WordName.L32ai t s offset) x y = is_whole x
+memory_used (memory.Word WordName.S32ri t s offset) x y = store_used x y offset
 memory_used (memory.S32c1i t s offset) x y = is_whole x && is_whole y
-memory_used (memory.L32e WindowName.L32e t s offset) x y = is_whole x
-memory_used (memory.L32e WindowName.S32e t s offset) x y = store_used x y offset
+memory_used (memory.Window WindowName.L32e t s offset) x y = is_whole x
+memory_used (memory.Window WindowName.S32e t s offset) x y = store_used x y offset
 memory_used _ x y = true
 
 -- ---- jumps, calls, branches, ENTRY and loops: x is AR[s] or a0, y is AR[t]
@@ -121,25 +121,26 @@ tested_known x y = knows (low_bits 5) y && knows (bit_number y.value) x
 
 unfoldable pub control_used : Control → Word → Word → Bool
 control_used (control.J offset) x y = true
-control_used (control.Call0 name offset) x y = true
-control_used (control.Ret name) x y = is_whole x
+control_used (control.Call name offset) x y = true
+control_used (control.Return name) x y = is_whole x
 control_used (control.Jx s) x y = is_whole x
-control_used (control.Callx0 name s) x y = is_whole x
-control_used (control.Beqz ZeroName.Beqz s offset) x y = is_whole x
-control_used (control.Beqz ZeroName.Bnez s offset) x y = is_whole x
-control_used (control.Beqz ZeroName.Bltz s offset) x y = knows sign_bit x
-control_used (control.Beqz ZeroName.Bgez s offset) x y = knows sign_bit x
-control_used (control.Beqi name s c offset) x y = is_whole x
-control_used (control.Bltui name s c offset) x y = is_whole x
-control_used (control.Bnone BranchName.Bnone s t offset) x y = is_whole (and_word x y)
-control_used (control.Bnone BranchName.Ball s t offset) x y = is_whole (and_word (not_word x) y)
-control_used (control.Bnone BranchName.Bbc s t offset) x y = tested_known x y
-control_used (control.Bnone name s t offset) x y = both_whole x y
-control_used (control.Bany OppositeName.Bany s t offset) x y = is_whole (and_word x y)
-control_used (control.Bany OppositeName.Bnall s t offset) x y = is_whole (and_word (not_word x) y)
-control_used (control.Bany OppositeName.Bbs s t offset) x y = tested_known x y
-control_used (control.Bany name s t offset) x y = both_whole x y
-control_used (control.Bbci name s b offset) x y = knows (bit_number (natural b)) x
+control_used (control.Callx name s) x y = is_whole x
+control_used (control.BranchZero ZeroName.Beqz s offset) x y = is_whole x
+control_used (control.BranchZero ZeroName.Bnez s offset) x y = is_whole x
+control_used (control.BranchZero ZeroName.Bltz s offset) x y = knows sign_bit x
+control_used (control.BranchZero ZeroName.Bgez s offset) x y = knows sign_bit x
+control_used (control.BranchConst name s c offset) x y = is_whole x
+control_used (control.BranchConstu name s c offset) x y = is_whole x
+control_used (control.Branch BranchName.Bnone s t offset) x y = is_whole (and_word x y)
+control_used (control.Branch BranchName.Ball s t offset) x y = is_whole (and_word (not_word x) y)
+control_used (control.Branch BranchName.Bbc s t offset) x y = tested_known x y
+control_used (control.Branch name s t offset) x y = both_whole x y
+control_used (control.BranchNot OppositeName.Bany s t offset) x y = is_whole (and_word x y)
+control_used (control.BranchNot OppositeName.Bnall s t offset) x y =
+  is_whole (and_word (not_word x) y)
+control_used (control.BranchNot OppositeName.Bbs s t offset) x y = tested_known x y
+control_used (control.BranchNot name s t offset) x y = both_whole x y
+control_used (control.BranchBit name s b offset) x y = knows (bit_number (natural b)) x
 control_used (control.Entry s n) x y = is_whole x
 control_used (control.Loop name s offset) x y = is_whole x
 
@@ -147,17 +148,17 @@ control_used (control.Loop name s offset) x y = is_whole x
 -- EXCSAVE1 to EXCSAVE7 and MISC0 to MISC3 keep what is not known, and so does THREADPTR.
 
 unfoldable pub system_used : Discipline → System → Word → Bool
-system_used d (system.Rsr SpecialName.Wsr t n) x = holds_marks n || knows (counted_bits d n) x
-system_used d (system.Rsr SpecialName.Xsr t n) x = holds_marks n || knows (counted_bits d n) x
+system_used d (system.Special SpecialName.Wsr t n) x = holds_marks n || knows (counted_bits d n) x
+system_used d (system.Special SpecialName.Xsr t n) x = holds_marks n || knows (counted_bits d n) x
 system_used d _ x = true
 
 -- ---- the 16-bit instructions: x is AR[s] or a0, y is AR[t]
 
 unfoldable pub density_used : Density → Word → Word → Bool
-density_used (density.L32i NarrowName.L32i t s offset) x y = is_whole x
-density_used (density.L32i NarrowName.S32i t s offset) x y = store_used x y offset
-density_used (density.Beqz name s offset) x y = is_whole x
-density_used (density.Ret name) x y = is_whole x
+density_used (density.Word NarrowName.L32i t s offset) x y = is_whole x
+density_used (density.Word NarrowName.S32i t s offset) x y = store_used x y offset
+density_used (density.BranchZero name s offset) x y = is_whole x
+density_used (density.Bare name) x y = is_whole x
 density_used _ x y = true
 
 -- ---- all rows

@@ -16,9 +16,9 @@ use xt_isa::Insn;
 use xt_isa::boolean::Boolean;
 use xt_isa::density::Density;
 use xt_isa::memory::{HalfName, Memory};
-use xt_isa::shift::{NegName, SextName, Shift, SrlName};
+use xt_isa::shift::{Shift, ShiftRightName, SignName, SignedName};
 use xt_isa::system::{LevelName, SpecialName, System, UserName};
-use xt_isa::three::{AddName, AndName, SubName, Three};
+use xt_isa::three::{BitwiseName, DifferenceName, SumName, Three};
 use xt_rows::natural;
 use xt_special::number;
 use xt_word::unary::sext;
@@ -94,21 +94,21 @@ fn three_mask(i: Three, x: Word, y: Word, sar: u8) -> u32
     ensures { result ≡ three_mask i x y sar }
 {
     match i {
-        Three::And(AndName::And, _, _, _) => and_mask(x, y),
-        Three::And(AndName::Or, _, _, _) => or_mask(x, y),
-        Three::And(AndName::Xor, _, _, _) => both_mask(x, y),
-        Three::Add(AddName::Add, _, s, t) => add_mask(s, t, x, y),
-        Three::Add(AddName::Addx2, _, _, _) => scaled_sum(1, x, y),
-        Three::Add(AddName::Addx4, _, _, _) => scaled_sum(2, x, y),
-        Three::Add(AddName::Addx8, _, _, _) => scaled_sum(3, x, y),
-        Three::Sub(SubName::Sub, _, _, _) => sum_mask(x.mask, y.mask),
-        Three::Sub(SubName::Subx2, _, _, _) => scaled_sum(1, x, y),
-        Three::Sub(SubName::Subx4, _, _, _) => scaled_sum(2, x, y),
-        Three::Sub(SubName::Subx8, _, _, _) => scaled_sum(3, x, y),
-        Three::Mul16u(_, _, _, _) => sum_mask(half_mask(x.mask), half_mask(y.mask)),
+        Three::Bitwise(BitwiseName::And, _, _, _) => and_mask(x, y),
+        Three::Bitwise(BitwiseName::Or, _, _, _) => or_mask(x, y),
+        Three::Bitwise(BitwiseName::Xor, _, _, _) => both_mask(x, y),
+        Three::Sum(SumName::Add, _, s, t) => add_mask(s, t, x, y),
+        Three::Sum(SumName::Addx2, _, _, _) => scaled_sum(1, x, y),
+        Three::Sum(SumName::Addx4, _, _, _) => scaled_sum(2, x, y),
+        Three::Sum(SumName::Addx8, _, _, _) => scaled_sum(3, x, y),
+        Three::Difference(DifferenceName::Sub, _, _, _) => sum_mask(x.mask, y.mask),
+        Three::Difference(DifferenceName::Subx2, _, _, _) => scaled_sum(1, x, y),
+        Three::Difference(DifferenceName::Subx4, _, _, _) => scaled_sum(2, x, y),
+        Three::Difference(DifferenceName::Subx8, _, _, _) => scaled_sum(3, x, y),
+        Three::Mul16(_, _, _, _) => sum_mask(half_mask(x.mask), half_mask(y.mask)),
         Three::Mull(_, _, _) => sum_mask(x.mask, y.mask),
         Three::Src(_, _, _) => src_mask(x, y, sar),
-        Three::Moveqz(_, _, _, _) => x.mask,
+        Three::Move(_, _, _, _) => x.mask,
         _ => where_both(x, y),
     }
 }
@@ -122,9 +122,9 @@ fn shift_mask(i: Shift, x: Word, sar: u8) -> u32
 {
     let lacks = complement(x.mask);
     match i {
-        Shift::Neg(NegName::Neg, _, _) => below_unknown(x.mask),
-        Shift::Srl(SrlName::Srl, _, _) => complement(srl(lacks, sar)),
-        Shift::Srl(SrlName::Sra, _, _) => complement(sra(lacks, sar)),
+        Shift::Sign(SignName::Neg, _, _) => below_unknown(x.mask),
+        Shift::ShiftRight(ShiftRightName::Srl, _, _) => complement(srl(lacks, sar)),
+        Shift::ShiftRight(ShiftRightName::Sra, _, _) => complement(sra(lacks, sar)),
         Shift::Sll(_, _) => complement(sll(lacks, sar)),
         Shift::Slli(_, _, n) => complement(slli(lacks, within(n, 1, 31))),
         Shift::Srai(_, _, n) => complement(srai(lacks, within(n, 0, 31))),
@@ -132,7 +132,7 @@ fn shift_mask(i: Shift, x: Word, sar: u8) -> u32
         Shift::Extui(_, _, n, width) => {
             complement(extui(lacks, within(n, 0, 31), within(width, 1, 16)))
         }
-        Shift::Sext(SextName::Sext, _, _, b) => complement(sext(lacks, within(b, 7, 22))),
+        Shift::Signed(SignedName::Sext, _, _, b) => complement(sext(lacks, within(b, 7, 22))),
         _ => mask_where(is_whole(x)),
     }
 }
@@ -155,12 +155,12 @@ fn memory_mask(i: Memory, x: Word, reply: u32) -> u32
     ensures { result ≡ memory_mask i x reply }
 {
     match i {
-        Memory::L8ui(_, _, _, _) => loaded_mask(false, reply),
-        Memory::L16ui(HalfName::L16si, _, _, _) => loaded_mask(true, reply),
-        Memory::L16ui(_, _, _, _) => loaded_mask(false, reply),
-        Memory::L32i(_, _, _, _) => loaded_mask(false, reply),
+        Memory::Byte(_, _, _, _) => loaded_mask(false, reply),
+        Memory::Half(HalfName::L16si, _, _, _) => loaded_mask(true, reply),
+        Memory::Half(_, _, _, _) => loaded_mask(false, reply),
+        Memory::Word(_, _, _, _) => loaded_mask(false, reply),
         Memory::S32c1i(_, _, _) => loaded_mask(false, reply),
-        Memory::L32e(_, _, _, _) => loaded_mask(false, reply),
+        Memory::Window(_, _, _, _) => loaded_mask(false, reply),
         Memory::L32r(_, _) => loaded_mask(false, reply),
         Memory::Movi(_, _) => ALL_BITS,
         Memory::Addi(_, _, _) => below_unknown(x.mask),
@@ -173,10 +173,10 @@ fn system_mask(discipline: Discipline, i: System, u: Word, pointer: u32) -> u32
     ensures { result ≡ system_mask discipline i u pointer }
 {
     match i {
-        System::Rsr(SpecialName::Rsr, _, _) => u.mask,
-        System::Rsr(SpecialName::Xsr, _, _) => u.mask,
-        System::Rsil(LevelName::Rsil, _, _) => counted_bits(discipline, number::PS),
-        System::Rur(UserName::Rur, _, _) => pointer,
+        System::Special(SpecialName::Rsr, _, _) => u.mask,
+        System::Special(SpecialName::Xsr, _, _) => u.mask,
+        System::Level(LevelName::Rsil, _, _) => counted_bits(discipline, number::PS),
+        System::User(UserName::Rur, _, _) => pointer,
         _ => ALL_BITS,
     }
 }
@@ -186,7 +186,7 @@ fn density_mask(i: Density, x: Word, y: Word, reply: u32) -> u32
     ensures { result ≡ density_mask i x y reply }
 {
     match i {
-        Density::L32i(_, _, _, _) => loaded_mask(false, reply),
+        Density::Word(_, _, _, _) => loaded_mask(false, reply),
         Density::Add(_, s, t) => add_mask(s, t, x, y),
         Density::Addi(_, _, _) => below_unknown(x.mask),
         Density::Mov(_, _) => x.mask,
@@ -199,7 +199,7 @@ fn boolean_mask(i: Boolean, x: Word) -> u32
     ensures { result ≡ boolean_mask i x }
 {
     match i {
-        Boolean::Movf(_, _, _, _) => x.mask,
+        Boolean::Choice(_, _, _, _) => x.mask,
         _ => ALL_BITS,
     }
 }

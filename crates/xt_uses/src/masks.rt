@@ -277,7 +277,7 @@ impl TopMasks {
     fn write_pointer(&mut self, i: Insn, given: u32)
         ensures { (kept : List (List ℕ)) → masks_at kept self.new ≡ pointer_written i given (masks_at kept self.old) }
     {
-        if let Insn::System(System::Rur(UserName::Wur, _, _)) = i {
+        if let Insn::System(System::User(UserName::Wur, _, _)) = i {
             self.threadptr = given;
         }
     }

@@ -75,11 +75,11 @@ fn three_used(i: Three, x: Word, y: Word) -> bool
     ensures { result ≡ three_used i x y }
 {
     match i {
-        Three::Quou(_, _, _, _) => is_whole(y),
-        Three::Moveqz(MoveName::Moveqz, _, _, _) => is_whole(y),
-        Three::Moveqz(MoveName::Movnez, _, _, _) => is_whole(y),
-        Three::Moveqz(MoveName::Movltz, _, _, _) => knows(SIGN_BIT, y),
-        Three::Moveqz(MoveName::Movgez, _, _, _) => knows(SIGN_BIT, y),
+        Three::Divide(_, _, _, _) => is_whole(y),
+        Three::Move(MoveName::Moveqz, _, _, _) => is_whole(y),
+        Three::Move(MoveName::Movnez, _, _, _) => is_whole(y),
+        Three::Move(MoveName::Movltz, _, _, _) => knows(SIGN_BIT, y),
+        Three::Move(MoveName::Movgez, _, _, _) => knows(SIGN_BIT, y),
         _ => true,
     }
 }
@@ -89,8 +89,8 @@ fn shift_used(i: Shift, x: Word) -> bool
     ensures { result ≡ shift_used i x }
 {
     match i {
-        Shift::Ssr(_, _) => knows(0x1F, x),
-        Shift::Ssa8l(_, _) => knows(3, x),
+        Shift::Amount(_, _) => knows(0x1F, x),
+        Shift::ByteAmount(_, _) => knows(3, x),
         Shift::Movsp(_, _) => is_whole(x),
         _ => true,
     }
@@ -101,18 +101,18 @@ fn memory_used(i: Memory, x: Word, y: Word) -> bool
     ensures { result ≡ memory_used i x y }
 {
     match i {
-        Memory::L8ui(ByteName::L8ui, _, _, _) => is_whole(x),
-        Memory::L8ui(ByteName::S8i, _, _, offset) => store_used(x, y, offset),
-        Memory::L16ui(HalfName::L16ui, _, _, _) => is_whole(x),
-        Memory::L16ui(HalfName::L16si, _, _, _) => is_whole(x),
-        Memory::L16ui(HalfName::S16i, _, _, offset) => store_used(x, y, offset),
-        Memory::L32i(WordName::L32i, _, _, _) => is_whole(x),
-        Memory::L32i(WordName::S32i, _, _, offset) => store_used(x, y, offset),
-        Memory::L32i(WordName::L32ai, _, _, _) => is_whole(x),
-        Memory::L32i(WordName::S32ri, _, _, offset) => store_used(x, y, offset),
+        Memory::Byte(ByteName::L8ui, _, _, _) => is_whole(x),
+        Memory::Byte(ByteName::S8i, _, _, offset) => store_used(x, y, offset),
+        Memory::Half(HalfName::L16ui, _, _, _) => is_whole(x),
+        Memory::Half(HalfName::L16si, _, _, _) => is_whole(x),
+        Memory::Half(HalfName::S16i, _, _, offset) => store_used(x, y, offset),
+        Memory::Word(WordName::L32i, _, _, _) => is_whole(x),
+        Memory::Word(WordName::S32i, _, _, offset) => store_used(x, y, offset),
+        Memory::Word(WordName::L32ai, _, _, _) => is_whole(x),
+        Memory::Word(WordName::S32ri, _, _, offset) => store_used(x, y, offset),
         Memory::S32c1i(_, _, _) => is_whole(x) && is_whole(y),
-        Memory::L32e(WindowName::L32e, _, _, _) => is_whole(x),
-        Memory::L32e(WindowName::S32e, _, _, offset) => store_used(x, y, offset),
+        Memory::Window(WindowName::L32e, _, _, _) => is_whole(x),
+        Memory::Window(WindowName::S32e, _, _, offset) => store_used(x, y, offset),
         _ => true,
     }
 }
@@ -135,25 +135,25 @@ fn control_used(i: Control, x: Word, y: Word) -> bool
 {
     match i {
         Control::J(_) => true,
-        Control::Call0(_, _) => true,
-        Control::Ret(_) => is_whole(x),
+        Control::Call(_, _) => true,
+        Control::Return(_) => is_whole(x),
         Control::Jx(_) => is_whole(x),
-        Control::Callx0(_, _) => is_whole(x),
-        Control::Beqz(ZeroName::Beqz, _, _) => is_whole(x),
-        Control::Beqz(ZeroName::Bnez, _, _) => is_whole(x),
-        Control::Beqz(ZeroName::Bltz, _, _) => knows(SIGN_BIT, x),
-        Control::Beqz(ZeroName::Bgez, _, _) => knows(SIGN_BIT, x),
-        Control::Beqi(_, _, _, _) => is_whole(x),
-        Control::Bltui(_, _, _, _) => is_whole(x),
-        Control::Bnone(BranchName::Bnone, _, _, _) => is_whole(and_word(x, y)),
-        Control::Bnone(BranchName::Ball, _, _, _) => is_whole(and_word(not_word(x), y)),
-        Control::Bnone(BranchName::Bbc, _, _, _) => tested_known(x, y),
-        Control::Bnone(_, _, _, _) => both_whole(x, y),
-        Control::Bany(OppositeName::Bany, _, _, _) => is_whole(and_word(x, y)),
-        Control::Bany(OppositeName::Bnall, _, _, _) => is_whole(and_word(not_word(x), y)),
-        Control::Bany(OppositeName::Bbs, _, _, _) => tested_known(x, y),
-        Control::Bany(_, _, _, _) => both_whole(x, y),
-        Control::Bbci(_, _, b, _) => knows(bit_number(natural(b)), x),
+        Control::Callx(_, _) => is_whole(x),
+        Control::BranchZero(ZeroName::Beqz, _, _) => is_whole(x),
+        Control::BranchZero(ZeroName::Bnez, _, _) => is_whole(x),
+        Control::BranchZero(ZeroName::Bltz, _, _) => knows(SIGN_BIT, x),
+        Control::BranchZero(ZeroName::Bgez, _, _) => knows(SIGN_BIT, x),
+        Control::BranchConst(_, _, _, _) => is_whole(x),
+        Control::BranchConstu(_, _, _, _) => is_whole(x),
+        Control::Branch(BranchName::Bnone, _, _, _) => is_whole(and_word(x, y)),
+        Control::Branch(BranchName::Ball, _, _, _) => is_whole(and_word(not_word(x), y)),
+        Control::Branch(BranchName::Bbc, _, _, _) => tested_known(x, y),
+        Control::Branch(_, _, _, _) => both_whole(x, y),
+        Control::BranchNot(OppositeName::Bany, _, _, _) => is_whole(and_word(x, y)),
+        Control::BranchNot(OppositeName::Bnall, _, _, _) => is_whole(and_word(not_word(x), y)),
+        Control::BranchNot(OppositeName::Bbs, _, _, _) => tested_known(x, y),
+        Control::BranchNot(_, _, _, _) => both_whole(x, y),
+        Control::BranchBit(_, _, b, _) => knows(bit_number(natural(b)), x),
         Control::Entry(_, _) => is_whole(x),
         Control::Loop(_, _, _) => is_whole(x),
     }
@@ -164,10 +164,10 @@ fn system_used(discipline: Discipline, i: System, x: Word) -> bool
     ensures { result ≡ system_used discipline i x }
 {
     match i {
-        System::Rsr(SpecialName::Wsr, _, n) => {
+        System::Special(SpecialName::Wsr, _, n) => {
             keeps_unknown(n) || knows(counted_bits(discipline, n), x)
         }
-        System::Rsr(SpecialName::Xsr, _, n) => {
+        System::Special(SpecialName::Xsr, _, n) => {
             keeps_unknown(n) || knows(counted_bits(discipline, n), x)
         }
         _ => true,
@@ -179,10 +179,10 @@ fn density_used(i: Density, x: Word, y: Word) -> bool
     ensures { result ≡ density_used i x y }
 {
     match i {
-        Density::L32i(NarrowName::L32i, _, _, _) => is_whole(x),
-        Density::L32i(NarrowName::S32i, _, _, offset) => store_used(x, y, offset),
-        Density::Beqz(_, _, _) => is_whole(x),
-        Density::Ret(_) => is_whole(x),
+        Density::Word(NarrowName::L32i, _, _, _) => is_whole(x),
+        Density::Word(NarrowName::S32i, _, _, offset) => store_used(x, y, offset),
+        Density::BranchZero(_, _, _) => is_whole(x),
+        Density::Bare(_) => is_whole(x),
         _ => true,
     }
 }
