@@ -12,14 +12,14 @@ mod side;
 mod stepping;
 mod walk;
 
-pub use accesses::saves;
+pub use accesses::{loads, saves};
 pub use before::walk_before;
 pub use bytes::{Change, Held, change_bytes, held_at};
 pub use calling::{Stacked, areas, newest, newest_sp};
 pub use handler_phases::Phases;
 pub use judging::{are_yes, handlers_of, judge};
 pub use order::{Schedule, ScheduleIter, schedule_of};
-pub use side::{Areas, change_areas, closes, is_window, returns};
+pub use side::{Areas, Side, change_areas, closes, is_window, returns, store};
 pub use stepping::phases;
 pub use walk::{Walk, opening_marks};
 pub use xt_frames::Judged;

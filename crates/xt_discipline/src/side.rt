@@ -59,7 +59,7 @@ pub fn change_areas(marks: &mut [Held], change: Change, areas: Areas)
 }
 
 /// A judged store makes the bytes that it touches fresh.
-fn store(marks: &mut [Held], access: Option<Access>)
+pub fn store(marks: &mut [Held], access: Option<Access>)
     ensures len { length marks.new ≡ length marks.old }
     ensures bytes { AreChanged Stored (stores_at access) marks.old marks.new }
 {

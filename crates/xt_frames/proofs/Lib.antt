@@ -15,3 +15,4 @@ pub mod OneBreach
 pub mod Mild
 pub mod Quickly
 pub mod Same
+pub mod Leveled

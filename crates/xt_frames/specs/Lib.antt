@@ -16,3 +16,4 @@ pub mod Walked
 pub mod Backtrace
 pub mod Stepped
 pub mod Quick
+pub mod Levels

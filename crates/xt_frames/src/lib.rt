@@ -9,6 +9,7 @@ mod holes;
 mod judged;
 mod kinds;
 pub mod laws;
+mod levels;
 mod nested;
 mod quick;
 mod registers;

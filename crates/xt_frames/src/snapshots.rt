@@ -62,7 +62,7 @@ fn put(callers: &mut Vec<Caller>, items: &[Caller])
 }
 
 // Whether all fields of PS are equal.
-fn is_same_ps(a: Ps, b: Ps) -> bool
+pub(crate) fn is_same_ps(a: Ps, b: Ps) -> bool
     ensures { result ≡ true → a ≡ b }
 {
     a == b

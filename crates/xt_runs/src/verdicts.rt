@@ -6,14 +6,13 @@ ghost use Rattle.xt_image.specs.ImageParts.{IsWellFormed};
 ghost use Rattle.xt_report.specs.Framed.{IsFramed};
 
 use std::alloc::{AllocError, Global};
-use xt_core::Cursor;
-use xt_discipline::{handlers_of, judge};
+use xt_discipline::handlers_of;
 use xt_frames::Judged;
 use xt_frames::laws::verdict_is_first_breach;
 use xt_handlers::Handlers;
 use xt_image::{Image, well_formed_is_placed};
-use xt_machine::run_has_schedule;
 use xt_report::Whole;
+use xt_shadow::judge_run;
 use xt_trace::Run;
 
 // What is judged of a run of an image, over its records, which are made one by one.
@@ -28,10 +27,7 @@ fn verdict(
     ensures { IfOk result (λ j. j ≡ judged_of handlers.now image.now run.now) }
 {
     well_formed_is_placed();
-    run_has_schedule();
-    let mut records0 = Cursor::make(alloc, image, run, 0)?;
-    let mut records1 = Cursor::make(alloc, image, run, 1)?;
-    let judged = judge(alloc, image, handlers, run, &mut records0, &mut records1)?;
+    let judged = judge_run(alloc, image, handlers, run)?;
     Ok(judged)
 }
 

@@ -1,0 +1,12 @@
+mod Bystander
+mod Executed
+mod Counts
+mod InStep
+mod Stepping
+mod Whole
+mod Turning
+mod Walking
+mod Opened
+mod Making
+mod Saw
+mod Finding

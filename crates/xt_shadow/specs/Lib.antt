@@ -1,0 +1,4 @@
+-- Profile: the judge of a run of an image, beside the processor that makes its turns again.
+pub mod InStep
+pub mod Shadows
+pub mod Judging
