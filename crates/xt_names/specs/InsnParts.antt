@@ -112,7 +112,7 @@ control_parts (control.BranchConstu name s c d) =
     parts.OneNumberAndTarget (one_number_target.BranchConstu name) (s, c, d)
 control_parts (control.Branch name s t d) = parts.TwoAndTarget (two_target.Branch name) (s, t, d)
 control_parts (control.BranchNot name s t d) =
-  parts.TwoAndTarget (two_target.BranchNot name) (s, t, d)
+    parts.TwoAndTarget (two_target.BranchNot name) (s, t, d)
 control_parts (control.BranchBit name s b d) =
     parts.OneNumberAndTarget (one_number_target.BranchBit name) (s, b, d)
 control_parts (control.Entry s n) = parts.OneAndNumber one_number.Entry (s, n)
@@ -139,7 +139,7 @@ density_parts (density.Add r s t) = parts.Three triple.AddNarrow (r, s, t)
 density_parts (density.Addi r s n) = parts.TwoAndNumber two_number.AddiNarrow (r, s, n)
 density_parts (density.Movi s n) = parts.OneAndNumber one_number.MoviNarrow (s, n)
 density_parts (density.BranchZero name s d) =
-  parts.OneAndTarget (one_target.BranchZeroNarrow name) (s, d)
+    parts.OneAndTarget (one_target.BranchZeroNarrow name) (s, d)
 density_parts (density.Mov t s) = parts.Two two.MovNarrow (t, s)
 density_parts (density.Bare name) = parts.Nothing (plain.Bare name)
 density_parts (density.Break n) = parts.Number numeric.BreakNarrow n

@@ -101,7 +101,7 @@ abbrev pub of_one_and_target : OneAndTarget → ℕ → ℤ → Insn
 of_one_and_target (one_target.BranchZero name) s d = insn.Control (control.BranchZero name s d)
 of_one_and_target (one_target.Loop name) s d = insn.Control (control.Loop name s d)
 of_one_and_target (one_target.BranchZeroNarrow name) s d =
-  insn.Density (density.BranchZero name s d)
+    insn.Density (density.BranchZero name s d)
 of_one_and_target (one_target.Test name) s d = insn.Boolean (boolean.Test name s d)
 
 abbrev pub of_one_number_and_target : OneNumberAndTarget → ℕ → ℤ → ℤ → Insn

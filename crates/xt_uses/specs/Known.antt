@@ -89,9 +89,9 @@ three_mask _ x y sar = where_both x y
 unfoldable pub shift_mask : Shift → Word → ℕ → ℕ
 shift_mask (shift.Sign SignName.Neg r t) x sar = below_unknown x.mask
 shift_mask (shift.ShiftRight ShiftRightName.Srl r t) x sar =
-  moved_mask (λ bits. srl bits sar) x.mask
+    moved_mask (λ bits. srl bits sar) x.mask
 shift_mask (shift.ShiftRight ShiftRightName.Sra r t) x sar =
-  moved_mask (λ bits. sra bits sar) x.mask
+    moved_mask (λ bits. sra bits sar) x.mask
 shift_mask (shift.Sll r s) x sar = moved_mask (λ bits. sll bits sar) x.mask
 shift_mask (shift.Slli r s n) x sar = moved_mask (λ bits. slli bits (natural n)) x.mask
 shift_mask (shift.Srai r t n) x sar = moved_mask (λ bits. srai bits (natural n)) x.mask

@@ -137,7 +137,7 @@ control_used (control.Branch BranchName.Bbc s t offset) x y = tested_known x y
 control_used (control.Branch name s t offset) x y = both_whole x y
 control_used (control.BranchNot OppositeName.Bany s t offset) x y = is_whole (and_word x y)
 control_used (control.BranchNot OppositeName.Bnall s t offset) x y =
-  is_whole (and_word (not_word x) y)
+    is_whole (and_word (not_word x) y)
 control_used (control.BranchNot OppositeName.Bbs s t offset) x y = tested_known x y
 control_used (control.BranchNot name s t offset) x y = both_whole x y
 control_used (control.BranchBit name s b offset) x y = knows (bit_number (natural b)) x
