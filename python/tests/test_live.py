@@ -4,6 +4,7 @@ import unittest
 
 from support import TOP, cases, image, program
 import xt
+from xt.conditions import condition_of
 
 
 class Sessions(unittest.TestCase):
@@ -77,6 +78,21 @@ class Sessions(unittest.TestCase):
                 self.assertEqual(outer.sp, inner.sp + inner.size)
             self.assertIsNone(calls[0].call)
             self.assertEqual(calls[1].call, 8)
+
+    def test_conditions(self) -> None:
+        """docs/RECORDING.md: where core 0 is to make step 3, a3 is 12C and the word at 3FFB0000 is 012C0007."""
+        names = xt.Names()
+        with xt.Session(TOP / "examples/two.rec", program()) as session:
+            session.go(0, 3)
+            for text, is_so in (
+                    ("a3 == 300", True), ("a3 != 0x12C", False), ("a3 < 300", False), ("a3 <= 300", True),
+                    ("3FFB0000 == 0x012C0007", True), ("a2 > 0x3FFAFFFF", True), ("a2 >= -1", True),
+                    ("a2 < -1", False), ("00000000 == 0", False), ("00000000 != 0", False)):
+                with self.subTest(text):
+                    self.assertEqual(condition_of(text.split(), names).holds(session, 0), is_so)
+        for text in ("", "a3 ==", "a16 == 1", "a3 = 1", "a3 == x", "a3 == 1 2", "nobody == 1"):
+            with self.subTest(text), self.assertRaises(ValueError):
+                condition_of(text.split(), names)
 
     def test_no_script(self) -> None:
         with xt.Session(TOP / "examples/two.rec", program()) as session:

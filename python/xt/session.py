@@ -189,9 +189,11 @@ class Session:
         """Goes directly after the last step."""
         return self.move("end")
 
-    def break_at(self, core: int, address: int) -> bool:
-        """Goes to the next position at which a core is to execute the instruction at an address."""
-        return self.move(f"next {self.position};break {core} 0x{address:08X}")
+    def break_at(self, core: int, *addresses: int) -> bool:
+        """Goes to the next position at which a core is to execute the instruction at one of these
+        addresses."""
+        places = ",".join(f"0x{it:08X}" for it in addresses)
+        return self.move(f"next {self.position};break {core} {places}")
 
     def watch(self, address: int) -> bool:
         """Goes directly after the next step that stores into the word at an address."""
