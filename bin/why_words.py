@@ -254,7 +254,12 @@ def origin(it: Object) -> list[str]:
     said = "%s of a%d is known" % ("no bit" if it["known"] == 0 else "not each bit", it["register"])
     if it["from"] is None:
         return [said]
-    place, step = where(it["place"]), it["step"]
+    step = it["step"]
+    if it["from"] == "heap":
+        since = "%s: step %d freed the block that it comes from" if it["freed"] else (
+            "%s: it comes from a block that step %d got, and nothing set it since")
+        return [since % (said, step), *stack.shown(it["calls"])]
+    place = where(it["place"])
     if it["from"] == "unset":
         return ["%s: it was a%d of %s, which nothing set since step %d" % (
             said, it["was"], place, step)]
