@@ -79,7 +79,7 @@ class Scripts(unittest.TestCase):
         asked: tuple[tuple[list[str], bytes], ...] = (
             (["why", image, "--turns1", "0"], b""), (["why", "--json", image], b""),
             (["page", recording], b""), (["json"], b"history 1\n"),
-            (["debug", recording], b"regs\n"),
+            (["debug", recording], b"regs\n"), (["stack", recording], b""),
             (["dap"], b"Content-Length: %d\r\n\r\n" % len(request) + request))
         environment = {**os.environ, "XT": os.path.abspath(program().path)}
         for words, data in asked:
