@@ -4,9 +4,12 @@
 
 mod cores;
 mod file;
+mod instructions;
 mod judging;
+mod lookups;
+mod quiet;
 mod replies;
-mod tests;
 mod walk;
+mod whole;
 
 pub use judging::judge_run;
