@@ -25,13 +25,13 @@ ghost use Rattle.xt_shadow.specs.Shadows.{IsCore, IsMade, IsOpenedCore, IsPassed
 use crate::file::ShadowFile;
 use crate::instructions::{is_executed, is_in_vectors, is_sp};
 use crate::lookups::{Lookup, Lookups};
-use crate::quiet::is_quiet;
+use crate::quiet::passes;
 use crate::replies::Replies;
-use crate::whole::see;
+use crate::seeing::see;
 use std::alloc::{AllocError, Global};
 use xt_codec::Fetch;
 use xt_core::{StartedTurn, end_turn};
-use xt_discipline::{Held, Side, loads, saves, store};
+use xt_discipline::{Held, Side};
 use xt_exec::plans::{Effect, Plan};
 use xt_exec::{Regs, plan};
 use xt_frames::{Frames, HandlerPhase, Judged};
@@ -340,11 +340,8 @@ impl<'a> ShadowCore<'a> {
         if !self.regs.sr.woe() || self.regs.sr.vecbase() != self.vecbase {
             return Err(End::Lost);
         }
-        if !is_quiet(marks, rec.access) {
-            if saves(marks, rec.access) || loads(marks, rec.access) {
-                return Err(End::Lost);
-            }
-            store(marks, rec.access);
+        if !passes(marks, rec.access) {
+            return Err(End::Lost);
         }
         if let Some(w) = rec.write {
             if w.reg > 15 {

@@ -9,7 +9,7 @@ mod judging;
 mod lookups;
 mod quiet;
 mod replies;
+mod seeing;
 mod walk;
-mod whole;
 
 pub use judging::judge_run;

@@ -1,11 +1,11 @@
 //! The instructions of the code, each looked up once as long as no other takes its place.
 #![tactic(auto)]
 
-ghost use Rattle.std.specs.Prelude.{◌≡◌, ◌<◌, All, IfOk, length, replicate};
+ghost use Rattle.std.specs.Prelude.{◌≡◌, ℕ, true, IfOk, replicate};
 ghost use Rattle.xt_isa.specs.Ranges.{in_range};
 ghost use Rattle.xt_map.specs.Memory.{constant_byte};
 ghost use Rattle.xt_fetch.specs.Fetching.{Fetches, fetch_at};
-ghost use Rattle.xt_shadow.specs.Lookups.{IsLookup};
+ghost use Rattle.xt_shadow.specs.Lookups.{IsLookup, IsPlainInsn};
 
 use crate::file::ShadowFile;
 use crate::instructions::{is_common, is_no_epc1};
@@ -36,6 +36,15 @@ pub struct Lookup {
     pub is_plain: bool,
 }
 
+// Whether no breach names an instruction, it is no system instruction, and it does not read EPC1.
+fn is_plain(i: Insn) -> bool
+    requires { in_range i ≡ true }
+    ensures { result ≡ true → IsPlainInsn i }
+{
+    let (special, other) = special_reads(i);
+    is_common(i) && is_no_epc1(special) && is_no_epc1(other)
+}
+
 // What is tested of an instruction.
 fn tested(pc: u32, i: Insn, len: u8) -> Lookup
     requires { in_range i ≡ true }
@@ -43,14 +52,13 @@ fn tested(pc: u32, i: Insn, len: u8) -> Lookup
     ensures lookup { (code : ℕ → ℕ) → fetch_at code pc ≡ Fetches i len → IsLookup code result }
 {
     let (first, second) = reads(i);
-    let (special, other) = special_reads(i);
     Lookup {
         pc,
         fetch: Fetch::Insn(i, len),
         first,
         second,
         ahead: highest_register(i) / 4,
-        is_plain: is_common(i) && is_no_epc1(special) && is_no_epc1(other),
+        is_plain: is_plain(i),
     }
 }
 
@@ -96,11 +104,11 @@ impl<'a> Model for Lookups<'a> {
 }
 
 // So many times the same.
-fn filled(alloc: Global, lookup: Lookup) -> Result<Vec<Lookup>, AllocError>
-    ensures { IfOk result (λ places. places.items ≡ replicate 4096 lookup) }
+fn filled(alloc: Global, lookup: Lookup, count: u32) -> Result<Vec<Lookup>, AllocError>
+    ensures { IfOk result (λ places. places.items ≡ replicate count lookup) }
 {
-    let mut places = Vec::with_capacity(alloc, PLACES as usize)?;
-    for _place in 0..PLACES {
+    let mut places = Vec::with_capacity(alloc, count as usize)?;
+    for _place in 0..count {
         places.push(lookup)?;
     }
     Ok(places)
@@ -110,9 +118,10 @@ impl<'a> Lookups<'a> {
     /// Nothing but address 0 is looked up yet. The only error is running out of memory; all of it
     /// is taken here.
     pub fn make(alloc: Global, code: Constants<'a>) -> Result<Lookups<'a>, AllocError>
-        ensures { IfOk result (λ lookups. lookups ≡ code) }
+        ensures { IfOk result (λ lookups. lookups ≡ code.entry) }
     {
-        let places = filled(alloc, look_up(&code, 0))?;
+        let lookup = look_up(&code, 0);
+        let places = filled(alloc, lookup, PLACES)?;
         Ok(Lookups { code, places })
     }
 

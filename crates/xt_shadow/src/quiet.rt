@@ -1,11 +1,11 @@
 //! Accesses to bytes that lie in no live save area and are not stale, as most are.
 #![tactic(auto)]
 
-ghost use Rattle.std.specs.Prelude.{◌≡◌, ◌+◌, ◌<◌, ◌^◌, ℕ, true};
+ghost use Rattle.std.specs.Prelude.{◌≡◌, ◌+◌, ◌<◌, ◌^◌, ℕ, true, length};
 ghost use Rattle.xt_discipline.specs.ByteMarks.{held_at, nothing};
-ghost use Rattle.xt_shadow.specs.Quiet.{IsQuiet};
+ghost use Rattle.xt_shadow.specs.Quiet.{IsPassedBy, IsQuiet};
 
-use xt_discipline::{Held, held_at};
+use xt_discipline::{Held, held_at, loads, saves, store};
 use xt_map::Access;
 
 // Whether nothing is known of so many bytes.
@@ -23,13 +23,29 @@ fn are_unknown(marks: &[Held], addr: u64, size: u64) -> bool
     true
 }
 
-/// Whether an access, if there is one, touches no byte of a live save area and none that is stale.
+// Whether an access, if there is one, touches no byte of a live save area and none that is stale.
 #[inline(always)]
-pub fn is_quiet(marks: &[Held], access: Option<Access>) -> bool
+fn is_quiet(marks: &[Held], access: Option<Access>) -> bool
     ensures { result ≡ true → IsQuiet marks.now access }
 {
     match access {
         Some(access) => are_unknown(marks, u64::from(access.addr), u64::from(access.size)),
         None => true,
     }
+}
+
+/// Whether an access, if there is one, shows no breach. Then the marks follow it.
+#[inline(always)]
+pub fn passes(marks: &mut [Held], access: Option<Access>) -> bool
+    ensures len { length marks.new ≡ length marks.old }
+    ensures passed { result ≡ true → IsPassedBy marks.old marks.new access }
+{
+    if is_quiet(marks, access) {
+        return true;
+    }
+    if saves(marks, access) || loads(marks, access) {
+        return false;
+    }
+    store(marks, access);
+    true
 }

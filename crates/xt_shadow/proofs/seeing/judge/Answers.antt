@@ -13,7 +13,7 @@ use Rattle.xt_discipline.specs.Sides.{IsSeen, live_in, standing_of}
 use Rattle.xt_discipline.proofs.Known.{loads_for, saves_for}
 use Rattle.xt_discipline.proofs.Seeing.{breach_where, found_by, judged_breaks, judged_marks, judged_past, moves_where, past_where, plain_judged, side_past, step_seen}
 use Rattle.xt_shadow.proofs.Saw.{phase_stays}
-use Rattle.xt_shadow.proofs.whole.judge.Goals as goal
+use Rattle.xt_shadow.proofs.seeing.judge.Goals as goal
 
 pub judge_whole-requires : goal.judge_whole-requires
 judge_whole-requires c =
