@@ -71,6 +71,9 @@ pub struct ShadowCore<'a> {
     pub seen: [Option<u32>; 16],
     /// VECBASE as it opened.
     pub vecbase: u32,
+    /// Whether one of the next three windows may be a frame's. In step no turn moves a window, so
+    /// this stays.
+    pub near: bool,
 }
 
 /// The turns that are left after one with this record: none after a BREAK.
@@ -128,6 +131,7 @@ impl<'a> ShadowCore<'a> {
             plain: true,
             seen: [None; 16],
             vecbase: options.vecbase,
+            near: true,
         })
     }
 
@@ -171,11 +175,7 @@ impl<'a> ShadowCore<'a> {
     fn is_clear(&self, ahead: u8) -> bool
         requires { ahead < 4 }
     {
-        // (most often no window is near)
-        match self.regs.win.check(3) {
-            None => true,
-            Some(_) => self.regs.win.check(ahead).is_none(),
-        }
+        !self.near || self.regs.win.check(ahead).is_none()
     }
 
     /// Whether the instruction that was found at PC can be made in step.
@@ -360,7 +360,7 @@ impl<'a> ShadowCore<'a> {
         requires outside { self.old.side.phase ≡ Outside }
         ensures inside { IsCore self.new }
         ensures shown { shown self.new ≡ self.old.side }
-        ensures rest { self.new ≡ record self.old { seen = self.new.seen; level = self.new.level } }
+        ensures rest { self.new ≡ record self.old { seen = self.new.seen; level = self.new.level; near = self.new.near } }
     {
         if !self.plain {
             return;
@@ -374,6 +374,7 @@ impl<'a> ShadowCore<'a> {
             &self.regs.sr,
         ) {
             self.seen = self.side.frames.seen();
+            self.near = self.regs.win.check(3).is_some();
             self.level = true;
         }
     }
