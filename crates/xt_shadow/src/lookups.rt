@@ -1,11 +1,12 @@
 //! The instructions of the code, each looked up once as long as no other takes its place.
 #![tactic(auto)]
 
-ghost use Rattle.std.specs.Prelude.{◌≡◌, ℕ, true, IfOk, replicate};
+ghost use Rattle.std.specs.Prelude.{◌≡◌, ◌%◌, ℕ, true, All, IfOk, length, replicate, slice_index_or};
 ghost use Rattle.xt_isa.specs.Ranges.{in_range};
 ghost use Rattle.xt_map.specs.Memory.{constant_byte};
 ghost use Rattle.xt_fetch.specs.Fetching.{Fetches, fetch_at};
 ghost use Rattle.xt_shadow.specs.Lookups.{IsLookup, IsPlainInsn};
+ghost use Rattle.xt_shadow.specs.declared.lookups.Lookup.{Lookup};
 
 use crate::file::ShadowFile;
 use crate::instructions::{is_common, is_no_epc1};
@@ -114,6 +115,18 @@ fn filled(alloc: Global, lookup: Lookup, count: u32) -> Result<Vec<Lookup>, Allo
     Ok(places)
 }
 
+// Looks up what stands at an address, and keeps it.
+#[inline(never)]
+fn keep(code: &Constants, places: &mut [Lookup], pc: u32)
+    requires len { length places.old ≡ 4096 }
+    requires known { All (IsLookup (constant_byte code.now)) places.old }
+    ensures len { length places.new ≡ 4096 }
+    ensures known { All (IsLookup (constant_byte code.now)) places.new }
+    ensures at { (d : Lookup) → (slice_index_or places.new (pc % 4096) d).pc ≡ pc }
+{
+    places[(pc % PLACES) as usize] = look_up(code, pc);
+}
+
 impl<'a> Lookups<'a> {
     /// Nothing but address 0 is looked up yet. The only error is running out of memory; all of it
     /// is taken here.
@@ -132,18 +145,6 @@ impl<'a> Lookups<'a> {
         &self.code
     }
 
-    // What stands at an address, looked up and kept.
-    #[inline(never)]
-    fn keep(&mut self, pc: u32) -> Lookup
-        ensures pc { result.pc ≡ pc }
-        ensures lookup { IsLookup (constant_byte self.old) result }
-        ensures code { self.new ≡ self.old }
-    {
-        let lookup = look_up(&self.code, pc);
-        self.places[(pc % PLACES) as usize] = lookup;
-        lookup
-    }
-
     /// What stands at an address.
     #[inline(always)]
     pub fn at(&mut self, pc: u32) -> Lookup
@@ -151,7 +152,11 @@ impl<'a> Lookups<'a> {
         ensures lookup { IsLookup (constant_byte self.old) result }
         ensures code { self.new ≡ self.old }
     {
-        let kept = self.places[(pc % PLACES) as usize];
-        if kept.pc == pc { kept } else { self.keep(pc) }
+        let place = (pc % PLACES) as usize;
+        if self.places[place].pc == pc {
+            return self.places[place];
+        }
+        keep(&self.code, &mut self.places, pc);
+        self.places[place]
     }
 }
