@@ -206,6 +206,30 @@ class Images(unittest.TestCase):
         client.good("evaluate", expression="go 0 30", context="repl")
         self.assertEqual(client.event("stopped")["threadId"], 1)
 
+    def test_conditions(self) -> None:
+        """examples/calls.s: `main` calls `f` with 8, and `f` calls itself with one less until a2 is 0;
+        400D000F is directly behind its ENTRY."""
+        client = self.client(image("calls.s"), turns1=0, stopOnEntry=False)
+        client.event("stopped")
+        client.moved("restart")
+
+        def set_to(*conditions: str) -> list[bool]:
+            rows = [{"instructionReference": "0x400D000F", "condition": it} for it in conditions]
+            found = client.good("setInstructionBreakpoints", breakpoints=rows)
+            return [it["verified"] for it in found["breakpoints"]]
+
+        self.assertEqual(set_to("a2 == 3"), [True])
+        self.assertEqual(client.moved("continue", threadId=1), ("breakpoint", 1))
+        self.assertEqual((client.pc(), client.good("evaluate", expression="a2")["result"]), (0x400D000F, "00000003"))
+        self.assertEqual(client.moved("continue", threadId=1), ("pause", 1))
+        self.assertEqual(set_to("a2>6", "a2 == 1"), [True, True])
+        for number in (1, 7, 8):
+            self.assertEqual(client.moved("reverseContinue", threadId=1), ("breakpoint", 1))
+            self.assertEqual(client.good("evaluate", expression="a2")["result"], f"{number:08X}")
+        self.assertEqual(set_to("a2 is 3", ""), [False, True])
+        self.assertEqual(client.moved("continue", threadId=1), ("breakpoint", 1))
+        self.assertEqual(client.good("evaluate", expression="a2")["result"], "00000007")
+
     def test_odd_arguments(self) -> None:
         """Each request is answered, whatever its arguments are."""
         client = self.client((TOP / "examples/letter.bin").read_bytes(), turns1=0)

@@ -4,12 +4,13 @@ from __future__ import annotations
 import operator
 import re
 from dataclasses import dataclass
-from typing import Callable, Optional, Sequence
+from typing import Callable, Optional
 
 from .names import Names
 from .session import Session
 
-FORM = "PLACE if A == N: A is a0 to a15, a variable or an address; also != < <= > >="
+FORM = "A == N: A is a0 to a15, a variable or an address; also != < <= > >="
+WORDS = re.compile(r"\s*([^\s=!<>]+)\s*(==|!=|<=|>=|<|>)\s*([^\s=!<>]+)\s*")
 RELATIONS: dict[str, Callable[[int, int], bool]] = {
     "==": operator.eq, "!=": operator.ne, "<": operator.lt, "<=": operator.le, ">": operator.gt,
     ">=": operator.ge,
@@ -44,11 +45,12 @@ class Condition:
         return RELATIONS[self.relation](value, self.number)
 
 
-def condition_of(words: Sequence[str], names: Names) -> Condition:
-    """The condition that three words are, as `a2 == 5`. A ValueError says what is wrong."""
-    if len(words) != 3 or words[1] not in RELATIONS or not NUMBER.fullmatch(words[2]):
-        raise ValueError(f"the form is {FORM}")
-    what, relation, number = words[0], words[1], int(words[2], 0)
+def condition_of(text: str, names: Names) -> Condition:
+    """The condition that a text is, as `a2 == 5`. A ValueError says what is wrong."""
+    parts = WORDS.fullmatch(text)
+    if not parts or not NUMBER.fullmatch(parts[3]):
+        raise ValueError(f"the form of a condition is {FORM}")
+    what, relation, number = parts[1], parts[2], int(parts[3], 0)
     register = re.fullmatch("a([0-9]|1[0-5])", what)
     if register:
         return Condition(int(register[1]), 0, 4, relation, number)

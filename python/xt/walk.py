@@ -6,6 +6,7 @@ from dataclasses import dataclass, field
 from typing import Callable, Iterator, Optional
 
 from . import stack
+from .conditions import Condition
 from .lines import Object
 from .names import Names, Place
 from .recording import Recording
@@ -29,10 +30,10 @@ class Hit:
 
 @dataclass
 class Stops:
-    """Where a run stops: before instructions at addresses, after stores into words, and at
-    positions that are known."""
+    """Where a run stops: before instructions at addresses, always or where one of some conditions
+    holds; after stores into words; and at positions that are known."""
 
-    addresses: set[int] = field(default_factory=set)
+    addresses: dict[int, list[Condition]] = field(default_factory=dict)
     words: set[int] = field(default_factory=set)
     points: list[Hit] = field(default_factory=list)
 
@@ -45,7 +46,7 @@ class Walker:
         self.session, self.parts, self.names = session, parts, names
         self.cores = [core for core in (0, 1) if parts.options[f"turns{core}"]] or [0]
         self.places: dict[int, Place] = {}
-        self.breaks: set[int] = set()
+        self.breaks: dict[int, list[Condition]] = {}
 
     # ---- Where the run is.
 
@@ -126,7 +127,7 @@ class Walker:
         depth of calls. Handlers are passed over."""
         depth, is_first, start = 0, True, self.session.position
         for position, turn in self.turns_ahead():
-            if position > start and turn["pc"] in self.breaks:
+            if position > start and self.stops_at(self.breaks, position, turn["core"], turn["pc"]):
                 self.session.position = position
                 return True
             if turn["core"] != core:
@@ -197,14 +198,27 @@ class Walker:
 
     # ---- To stops.
 
+    def stops_at(self, breaks: dict[int, list[Condition]], position: int, core: int, pc: int) -> bool:
+        """Whether a run stops at a position at which a core is next to execute the instruction at
+        `pc`."""
+        conditions = breaks.get(pc)
+        if not conditions:
+            return conditions is not None
+        kept, self.session.position = self.session.position, position
+        is_met = any(it.holds(self.session, core) for it in conditions)
+        self.session.position = kept
+        return is_met
+
     def forward(self, stops: Stops) -> Optional[Hit]:
         """Goes to the next stop; without one to the end of the run."""
         start, found = self.session.position, [it for it in stops.points]
         for address in stops.addresses:
             for core in self.cores:
                 self.session.position = start
-                if self.session.break_at(core, address):
-                    found.append(Hit(self.session.position, "breakpoint", core))
+                while self.session.break_at(core, address):
+                    if self.stops_at(stops.addresses, self.session.position, core, address):
+                        found.append(Hit(self.session.position, "breakpoint", core))
+                        break
         for word in stops.words:
             self.session.position = start
             if self.session.watch(word):
@@ -232,7 +246,7 @@ class Walker:
             if position + 1 < start and stored(turn) in stops.words:
                 hit = Hit(position + 1, "data breakpoint", core)
                 break
-            if turn["pc"] in stops.addresses and position > least:
+            if position > least and self.stops_at(stops.addresses, position, core, turn["pc"]):
                 hit = Hit(position, "breakpoint", core)
                 break
         self.session.position = hit.position if hit else 0
