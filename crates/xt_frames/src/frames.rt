@@ -129,7 +129,7 @@ impl Frames {
     {
         Case {
             limits: self.limits,
-            fresh: self.fresh && self.next == u64::from(index),
+            fresh: self.is_fresh(index),
             saves,
             stale,
             newest: self.newest(),

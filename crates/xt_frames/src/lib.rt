@@ -28,5 +28,6 @@ pub use holes::{
 pub use judged::give_numbers;
 pub use kinds::{Breach, BreachKind, HandlerPhase, Judged};
 pub use nested::{begin, go_on};
+pub use registers::{after_call, after_return, kept_of};
 pub use snapshots::Snapshot;
 pub use view::{Call, Caller, FrameRegisters, NextEvent, StepSummary};

@@ -389,7 +389,7 @@ impl FrameRegisters {
     {
         let by = self.special.callinc();
         let kept = kept_of(&self.seen);
-        self.seen = after_call(&self.seen, by);
+        self.seen = after_call(&self.seen, by, None);
         self.seen[number as usize] = Some(value);
         self.falls(len);
         self.tick();

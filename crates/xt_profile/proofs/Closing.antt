@@ -29,7 +29,7 @@ use Rattle.xt_profile.specs.Counts.{lines, total}
 use Rattle.xt_profile.specs.Profiled.{CoreAddsUp, core_profile, count_before_cut, records, steps, turns_past}
 use Rattle.xt_profile.specs.CountedSteps.{IsTally, Origin, profile_of_steps, from_here, origin}
 use Rattle.xt_profile.specs.Follows.{AreCut, Follows, IsCut}
-use Rattle.xt_profile.specs.Cuts.{IsAtCut}
+use Rattle.xt_profile.specs.Cuts.{AreAtCut, AreFresh, IsAtCut}
 use Rattle.xt_profile.proofs.Cutting.{cut0_is, cut1_is}
 use Rattle.xt_profile.proofs.Following.{core_begins}
 use Rattle.xt_profile.proofs.Putting.{total_is}
@@ -138,51 +138,85 @@ at_cut_is core d image r code f xs n count t c code_is xs_is f_is n_is count_is 
       none = none;
     }
 
--- the judgement is that of the run
-judged_is : (w : Walk) (segments : List Segment) (image : Image) (r : Run) (xs ys : List StepRecord) → w.code ≡ segments → segments ≡ image.segments → xs ≡ records 0 image r → ys ≡ records 1 image r
-    → judgement (constant_byte w.code) (opening_walked 0 image.entry r.options).bounds (opening_walked 1 r.options.entry1 r.options).bounds (schedule_in r) xs ys (opening_known (opening_walked 0 image.entry r.options).state (opening_walked 1 r.options.entry1 r.options).state)
-    ≡ judgement_in image r (records 0 image r) (records 1 image r)
-judged_is w segments image r xs ys a b e f =
-    let J : List Segment → List StepRecord → List StepRecord → Judgement = λ s us vs. judgement (constant_byte s) (opening_walked 0 image.entry r.options).bounds (opening_walked 1 r.options.entry1 r.options).bounds (schedule_in r) us vs (opening_known (opening_walked 0 image.entry r.options).state (opening_walked 1 r.options.entry1 r.options).state) in
-    ap (λ (s : List Segment). J s xs ys) (a ∙ b) ∙ (ap (λ (us : List StepRecord). J image.segments us ys) e ∙ ap (λ (vs : List StepRecord). J image.segments (records 0 image r) vs) f)
+-- the judge's walk over the run, as the definition has it
+abbrev judged : Image → Run → Judgement
+judged image r = judgement_in image r (records 0 image r) (records 1 image r)
 
-abbrev pub Cut : ℕ → Walk → Image → Run → List StepRecord → List StepRecord → Tally → Tally → Type 0
-Cut d w image r xs ys t0 t1 =
-    AreCut (constant_byte w.code) (opening_known (opening_walked 0 image.entry r.options).state (opening_walked 1 r.options.entry1 r.options).state) (from d image.entry) (from d r.options.entry1) xs ys
-    (judgement (constant_byte w.code) (opening_walked 0 image.entry r.options).bounds (opening_walked 1 r.options.entry1 r.options).bounds (schedule_in r) xs ys (opening_known (opening_walked 0 image.entry r.options).state (opening_walked 1 r.options.entry1 r.options).state))
-    t0 t1
+-- what comes of records, read over these constants
+abbrev pub Cut : ℕ → List Segment → Image → Run → List StepRecord → List StepRecord → Tally → Tally
+    → Type 0
+Cut d s image r xs ys t0 t1 =
+    let a = opening_walked 0 image.entry r.options in
+    let b = opening_walked 1 r.options.entry1 r.options in
+    let k = opening_known a.state b.state in
+    AreCut (constant_byte s) k (from d image.entry) (from d r.options.entry1) xs ys
+    (judgement (constant_byte s) a.bounds b.bounds (schedule_in r) xs ys k) t0 t1
 
-pub zero_is : (d : ℕ) (w : Walk) (segments : List Segment) (image : Image) (r : Run) (xs ys : List StepRecord) (t0 t1 : Tally) (c : AtCut) → w.code ≡ segments → segments ≡ image.segments → xs ≡ records 0 image r → ys ≡ records 1 image r → IsRunOf image r
-    → Cut d w image r xs ys t0 t1 → ((o : Origin) (past : List Step) → IsTally o past t0 → c.profile ≡ profile_of_steps o past (r.trace0.count - t0.steps)) → c.cut ≡ t0.steps → ((o : Origin) (past : List Step) → IsTally o past t0 → IsTally (from_here o past) past c.tally)
+pub settled : (d : ℕ) (s : List Segment) (image : Image) (r : Run) (xs ys : List StepRecord)
+    (t0 t1 : Tally) → s ≡ image.segments → xs ≡ records 0 image r → ys ≡ records 1 image r
+    → Cut d s image r xs ys t0 t1 → AreAtCut d image r t0 t1
+settled d s image r xs ys t0 t1 s_is xs_is ys_is h =
+    subst (λ (us : List Segment). Cut d us image r (records 0 image r) (records 1 image r) t0 t1) s_is
+    (subst (λ (us : List StepRecord). Cut d s image r us (records 1 image r) t0 t1) xs_is
+    (subst (λ (us : List StepRecord). Cut d s image r xs us t0 t1) ys_is h))
+
+pub zero_is : (d : ℕ) (image : Image) (r : Run) (t0 t1 : Tally) (c : AtCut) → IsRunOf image r
+    → AreAtCut d image r t0 t1
+    → ((o : Origin) (past : List Step) → IsTally o past t0
+    → c.profile ≡ profile_of_steps o past (r.trace0.count - t0.steps))
+    → c.cut ≡ t0.steps
+    → ((o : Origin) (past : List Step) → IsTally o past t0 → IsTally (from_here o past) past c.tally)
     → c.tally.steps ≡ 0 → IsAtCut 0 d image r r.trace0.count c
-zero_is d w segments image r xs ys t0 t1 c a b e f run h profile cut_eq goes none =
-    let j = judged_is w segments image r xs ys a b e f in
-    at_cut_is 0 d image r (constant_byte w.code) (opening_walked 0 image.entry r.options).state xs _ r.trace0.count t0 c (ap constant_byte (a ∙ b)) e refl (ap (λ (v : Judgement). v.known.steps0) j ∙ cut0_is image r) run.trace0.count_is h.core0 profile cut_eq goes none
+zero_is d image r t0 t1 c run h profile cut_eq goes none =
+    at_cut_is 0 d image r (code_of image) (opening_walked 0 image.entry r.options).state
+    (records 0 image r) (judged image r).known.steps0 r.trace0.count t0 c refl refl refl
+    (cut0_is image r) run.trace0.count_is h.core0 profile cut_eq goes none
 
-pub one_is : (d : ℕ) (w : Walk) (segments : List Segment) (image : Image) (r : Run) (xs ys : List StepRecord) (t0 t1 : Tally) (c : AtCut) → w.code ≡ segments → segments ≡ image.segments → xs ≡ records 0 image r → ys ≡ records 1 image r → IsRunOf image r
-    → Cut d w image r xs ys t0 t1 → ((o : Origin) (past : List Step) → IsTally o past t1 → c.profile ≡ profile_of_steps o past (r.trace1.count - t1.steps)) → c.cut ≡ t1.steps → ((o : Origin) (past : List Step) → IsTally o past t1 → IsTally (from_here o past) past c.tally)
+pub one_is : (d : ℕ) (image : Image) (r : Run) (t0 t1 : Tally) (c : AtCut) → IsRunOf image r
+    → AreAtCut d image r t0 t1
+    → ((o : Origin) (past : List Step) → IsTally o past t1
+    → c.profile ≡ profile_of_steps o past (r.trace1.count - t1.steps))
+    → c.cut ≡ t1.steps
+    → ((o : Origin) (past : List Step) → IsTally o past t1 → IsTally (from_here o past) past c.tally)
     → c.tally.steps ≡ 0 → IsAtCut 1 d image r r.trace1.count c
-one_is d w segments image r xs ys t0 t1 c a b e f run h profile cut_eq goes none =
-    let j = judged_is w segments image r xs ys a b e f in
-    at_cut_is 1 d image r (constant_byte w.code) (opening_walked 1 r.options.entry1 r.options).state ys _ r.trace1.count t1 c (ap constant_byte (a ∙ b)) f refl (ap (λ (v : Judgement). v.known.steps1) j ∙ cut1_is image r) run.trace1.count_is h.core1 profile cut_eq goes none
+one_is d image r t0 t1 c run h profile cut_eq goes none =
+    at_cut_is 1 d image r (code_of image) (opening_walked 1 r.options.entry1 r.options).state
+    (records 1 image r) (judged image r).known.steps1 r.trace1.count t1 c refl refl refl
+    (cut1_is image r) run.trace1.count_is h.core1 profile cut_eq goes none
 
 -- the steps that were counted are no more than all
 steps_le : (s p n l c : ℕ) → s ≤ p → p ≡ n → n ≤ l → c ≡ l → s ≤ c
 steps_le s p n l c e f g h = omega (arith, e, f, g, h)
 
-pub zero_within : (d : ℕ) (w : Walk) (image : Image) (r : Run) (xs ys : List StepRecord) (t0 t1 : Tally) → xs ≡ records 0 image r → IsRunOf image r → Cut d w image r xs ys t0 t1 → t0.steps ≤ r.trace0.count
-zero_within d w image r xs ys t0 t1 e run h =
-    steps_le t0.steps (length h.core0.past) _ (length xs) r.trace0.count (steps_within (from d image.entry) h.core0.past t0 h.core0.tally.counted) h.core0.count_is h.core0.within (run.trace0.count_is ∙ ap (λ (l : List StepRecord). length l) (sym e))
+pub zero_within : (d : ℕ) (image : Image) (r : Run) (t0 t1 : Tally) → IsRunOf image r
+    → AreAtCut d image r t0 t1 → t0.steps ≤ r.trace0.count
+zero_within d image r t0 t1 run h =
+    let past = h.core0.past in
+    steps_le t0.steps (length past) (judged image r).known.steps0 (length (records 0 image r))
+    r.trace0.count (steps_within (from d image.entry) past t0 h.core0.tally.counted)
+    h.core0.count_is h.core0.within run.trace0.count_is
 
-pub one_within : (d : ℕ) (w : Walk) (image : Image) (r : Run) (xs ys : List StepRecord) (t0 t1 : Tally) → ys ≡ records 1 image r → IsRunOf image r → Cut d w image r xs ys t0 t1 → t1.steps ≤ r.trace1.count
-one_within d w image r xs ys t0 t1 e run h =
-    steps_le t1.steps (length h.core1.past) _ (length ys) r.trace1.count (steps_within (from d r.options.entry1) h.core1.past t1 h.core1.tally.counted) h.core1.count_is h.core1.within (run.trace1.count_is ∙ ap (λ (l : List StepRecord). length l) (sym e))
+pub one_within : (d : ℕ) (image : Image) (r : Run) (t0 t1 : Tally) → IsRunOf image r
+    → AreAtCut d image r t0 t1 → t1.steps ≤ r.trace1.count
+one_within d image r t0 t1 run h =
+    let past = h.core1.past in
+    steps_le t1.steps (length past) (judged image r).known.steps1 (length (records 1 image r))
+    r.trace1.count (steps_within (from d r.options.entry1) past t1 h.core1.tally.counted)
+    h.core1.count_is h.core1.within run.trace1.count_is
 
 -- what is known at the cut, from what a walk from the opening ensures
-pub cut_is : (d : ℕ) (w : Walk) (segments : List Segment) (image : Image) (r : Run) (xs ys : List StepRecord) (t0 t1 u0 u1 : Tally) → IsOpened w segments image.entry r.options → IsTally (from d image.entry) [] t0 → IsTally (from d r.options.entry1) [] t1
-    → ((b0 b1 : Bounds) (k : Known) (e0 e1 : Origin) → Follows (constant_byte w.code) b0 b1 k (schedule_in r) e0 e1 xs ys w 0 xs ys t0 t1 → AreCut (constant_byte w.code) k e0 e1 xs ys (judgement (constant_byte w.code) b0 b1 (schedule_in r) xs ys k) u0 u1)
-    → Cut d w image r xs ys u0 u1
-cut_is d w segments image r xs ys t0 t1 u0 u1 o h0 h1 walked =
+pub cut_is : (d : ℕ) (w : Walk) (image : Image) (r : Run) (xs ys : List StepRecord)
+    (t0 t1 u0 u1 : Tally) → IsOpened w image.segments image.entry r.options
+    → xs ≡ records 0 image r → ys ≡ records 1 image r → AreFresh d image r t0 t1
+    → ((b0 b1 : Bounds) (k : Known) (e0 e1 : Origin)
+    → Follows (constant_byte w.code) b0 b1 k (schedule_in r) e0 e1 xs ys w 0 xs ys t0 t1
+    → AreCut (constant_byte w.code) k e0 e1 xs ys
+    (judgement (constant_byte w.code) b0 b1 (schedule_in r) xs ys k) u0 u1)
+    → AreAtCut d image r u0 u1
+cut_is d w image r xs ys t0 t1 u0 u1 o xs_is ys_is h walked =
     let a = opening_walked 0 image.entry r.options in
     let b = opening_walked 1 r.options.entry1 r.options in
-    walked a.bounds b.bounds (opening_known a.state b.state) (from d image.entry) (from d r.options.entry1) (follows_none d w segments image r (schedule_in r) xs ys t0 t1 o h0 h1)
+    settled d w.code image r xs ys u0 u1 o.code_is xs_is ys_is
+    (walked a.bounds b.bounds (opening_known a.state b.state) (from d image.entry)
+    (from d r.options.entry1)
+    (follows_none d w image.segments image r (schedule_in r) xs ys t0 t1 o h.0 h.1))

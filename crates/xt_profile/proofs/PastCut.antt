@@ -152,20 +152,13 @@ after_sum core depth n image r =
     turns_sum (start core depth image r) (first_steps core n image r) (all_steps core n image r) (length (drop n xs)) (longer code (first_steps core n image r) (drop n ms) (drop n xs) len)
 
 -- ---- the turns of a core past its first ones
-pub later_is : (core depth n : ℕ) (image : Image) (r : Run) (code : ℕ → ℕ) (phases : List HandlerPhase) (xs : List StepRecord) (turns : CoreTurns) → code ≡ code_of image → phases ≡ phases_of (code_of image) (records core image r) → xs ≡ records core image r
-    → turns ≡ turns_past (start core depth image r) (first_steps core n image r) (later_from code (first_steps core n image r) (drop n phases) (drop n xs)) → turns ≡ core_after core depth n image r
-later_is core depth n image r code phases xs turns code_is phases_is xs_is e =
-    let first = first_steps core n image r in
-    let T : (ℕ → ℕ) → List HandlerPhase → List StepRecord → CoreTurns = λ c ms ys. turns_past (start core depth image r) first (later_from c first (drop n ms) (drop n ys)) in
-    e
-    ∙ (ap (λ (c : ℕ → ℕ). T c phases xs) code_is
-    ∙ (ap (λ (ms : List HandlerPhase). T (code_of image) ms xs) phases_is ∙ ap (λ (ys : List StepRecord). T (code_of image) (phases_of (code_of image) (records core image r)) ys) xs_is))
-
-pub later_turns : (o : Origin) (past : List Step) (code code2 : ℕ → ℕ) (ms ms2 : List HandlerPhase) (xs xs2 : List StepRecord) (turns : CoreTurns) → code ≡ code2 → ms ≡ ms2 → xs ≡ xs2 → turns ≡ turns_past o.start o.first (later_from code past ms xs)
-    → turns ≡ turns_past o.start o.first (later_from code2 past ms2 xs2)
-later_turns o past code code2 ms ms2 xs xs2 turns code_is ms_is xs_is e =
-    let T : (ℕ → ℕ) → List HandlerPhase → List StepRecord → CoreTurns = λ c a b. turns_past o.start o.first (later_from c past a b) in
-    e ∙ (ap (λ (c : ℕ → ℕ). T c ms xs) code_is ∙ (ap (λ (a : List HandlerPhase). T code2 a xs) ms_is ∙ ap (λ (b : List StepRecord). T code2 ms2 b) xs_is))
+pub later_tally : (o : Origin) (past : List Step) (code code2 : ℕ → ℕ) (ms ms2 : List HandlerPhase)
+    (xs xs2 : List StepRecord) (t : Tally) → code ≡ code2 → ms ≡ ms2 → xs ≡ xs2
+    → IsTally o (later_from code past ms xs) t → IsTally o (later_from code2 past ms2 xs2) t
+later_tally o past code code2 ms ms2 xs xs2 t code_is ms_is xs_is h =
+    subst (λ (f : ℕ → ℕ). IsTally o (later_from f past ms2 xs2) t) code_is
+    (subst (λ (a : List HandlerPhase). IsTally o (later_from code past a xs2) t) ms_is
+    (subst (λ (b : List StepRecord). IsTally o (later_from code past ms b) t) xs_is h))
 
 -- those past the cut
 pub past_cut : (core d : ℕ) (image : Image) (r : Run) (count : ℕ) (c : AtCut) (turns : CoreTurns) → IsAtCut core d image r count c

@@ -1,7 +1,7 @@
 //! The walk over a run that counts its call stacks.
 #![tactic(auto)]
 
-ghost use Rattle.std.specs.Prelude.{◌≡◌, ◌+◌, ◌-◌, ◌<◌, ◌≤◌, ◌^◌, IfOk, OnOk, List, length};
+ghost use Rattle.std.specs.Prelude.{◌≡◌, ℕ, ◌+◌, ◌-◌, ◌<◌, ◌≤◌, ◌^◌, IfOk, OnOk, List, length};
 ghost use Rattle.xt_map.specs.Memory.{constant_byte};
 ghost use Rattle.xt_map.specs.Placing.{IsPlaced};
 ghost use Rattle.xt_trace.specs.declared.record.StepRecord.{StepRecord};
@@ -10,13 +10,13 @@ ghost use Rattle.xt_frames.specs.Verdict.{Known, judgement};
 ghost use Rattle.xt_discipline.specs.Ended.{records_left};
 ghost use Rattle.xt_discipline.specs.Schedules.{HasSchedule, schedule_in};
 ghost use Rattle.xt_discipline.specs.Verdicts.{are_yes};
-ghost use Rattle.xt_discipline.specs.Walks.{Knows};
+ghost use Rattle.xt_discipline.specs.Walks.{IsOpened, Knows};
 ghost use Rattle.xt_handlers.specs.CheckAnswers.{handlers_of};
 ghost use Rattle.xt_core.specs.Runs.{IsRunOf, code_of};
-ghost use Rattle.xt_profile.specs.Cuts.{IsAtCut};
+ghost use Rattle.xt_profile.specs.Cuts.{AreAtCut, AreFresh, IsAtCut};
 ghost use Rattle.xt_profile.specs.Follows.{AreCut, Follows, IsMade, depth_in};
 ghost use Rattle.xt_profile.specs.Peeks.{pc_and_kind};
-ghost use Rattle.xt_profile.specs.Profiled.{AddsUp, CoreAddsUp, core_profile, profile_of};
+ghost use Rattle.xt_profile.specs.Profiled.{AddsUp, CoreAddsUp, core_profile, profile_of, records};
 ghost use Rattle.xt_profile.specs.Steps.{Step};
 ghost use Rattle.xt_profile.specs.CountedSteps.{IsTally, Origin, profile_of_steps, from_here};
 
@@ -159,6 +159,52 @@ fn at_cut(alloc: Global, tally: Tally, count: u32) -> Result<AtCut, AllocError>
     })
 }
 
+/// The walk as both cores open, with all of their records.
+fn pass_over<'a>(
+    alloc: Global,
+    image: &'a Image,
+    run: &'a Run,
+) -> Result<(Walk<'a>, Peeked<'a>, Peeked<'a>), AllocError>
+    requires placed { IsPlaced image.now.segments }
+    requires run { IsRunOf image.now run.now }
+    ensures walk { IfOk result (λ p. IsOpened p.0 image.now.segments image.now.entry run.now.options) }
+    ensures zero { IfOk result (λ p. p.1 ≡ records 0 image.now run.now) }
+    ensures one { IfOk result (λ p. p.2 ≡ records 1 image.now run.now) }
+{
+    let code = Constants::make(alloc, image.segments.as_slice())?;
+    let walk = Walk::open(alloc, code, image.entry, &run.options)?;
+    let cursor0 = Cursor::make(alloc, image, run, 0)?;
+    let cursor1 = Cursor::make(alloc, image, run, 1)?;
+    Ok((walk, Peeked::new(cursor0), Peeked::new(cursor1)))
+}
+
+/// Counts the turns of a run before the first breach, where the tallies have counted none yet.
+fn count_to_cut<'a>(
+    alloc: Global,
+    image: &'a Image,
+    run: &'a Run,
+    tally0: &mut Tally,
+    tally1: &mut Tally,
+) -> Result<(), AllocError>
+    requires placed { IsPlaced image.now.segments }
+    requires run { IsRunOf image.now run.now }
+    requires fresh { (d : ℕ) × AreFresh d image.now run.now tally0.old tally1.old }
+    ensures { OnOk result ((d : ℕ) → AreFresh d image.now run.now tally0.old tally1.old
+        → AreAtCut d image.now run.now tally0.new tally1.new) }
+{
+    let (mut walk, mut records0, mut records1) = pass_over(alloc, image, run)?;
+    follow(
+        alloc,
+        &mut walk,
+        run,
+        &mut records0,
+        &mut records1,
+        tally0,
+        tally1,
+    )?;
+    Ok(())
+}
+
 /// Both cores at the cut of a run whose window handlers pass the check.
 pub fn cores(
     alloc: Global,
@@ -171,23 +217,9 @@ pub fn cores(
     ensures zero { IfOk result (λ p. IsAtCut 0 depth image.now run.now run.now.trace0.count p.0) }
     ensures one { IfOk result (λ p. IsAtCut 1 depth image.now run.now run.now.trace1.count p.1) }
 {
-    let code = Constants::make(alloc, image.segments.as_slice())?;
-    let mut walk = Walk::open(alloc, code, image.entry, &run.options)?;
-    let cursor0 = Cursor::make(alloc, image, run, 0)?;
-    let cursor1 = Cursor::make(alloc, image, run, 1)?;
-    let mut records0 = Peeked::new(cursor0);
-    let mut records1 = Peeked::new(cursor1);
     let mut tally0 = Tally::open(alloc, image.entry, depth)?;
     let mut tally1 = Tally::open(alloc, run.options.entry1, depth)?;
-    follow(
-        alloc,
-        &mut walk,
-        run,
-        &mut records0,
-        &mut records1,
-        &mut tally0,
-        &mut tally1,
-    )?;
+    count_to_cut(alloc, image, run, &mut tally0, &mut tally1)?;
     let zero = at_cut(alloc, tally0, run.trace0.count)?;
     let one = at_cut(alloc, tally1, run.trace1.count)?;
     Ok((zero, one))

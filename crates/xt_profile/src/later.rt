@@ -17,7 +17,7 @@ use crate::profiles::{CoreTurns, Profile, WholeProfile};
 use crate::tally::Tally;
 use std::alloc::{AllocError, Global};
 use xt_core::Cursor;
-use xt_discipline::{are_yes, handlers_of, phases};
+use xt_discipline::{Phases, are_yes, handlers_of, phases};
 use xt_frames::HandlerPhase;
 use xt_image::Image;
 use xt_map::Constants;
@@ -54,6 +54,55 @@ fn count_left<R: Records>(
     Ok(())
 }
 
+/// What each turn of a core is.
+fn phases_in(
+    alloc: Global,
+    code: &Constants,
+    image: &Image,
+    run: &Run,
+    core: u8,
+) -> Result<Phases, AllocError>
+    requires core { core < 2 }
+    requires placed { IsPlaced image.now.segments }
+    requires run { IsRunOf image.now run.now }
+    ensures { IfOk result (λ p. p ≡ phases_of (constant_byte code.now) (records core image.now run.now)) }
+{
+    let mut all = Cursor::make(alloc, image, run, core)?;
+    phases(alloc, code, &mut all)
+}
+
+/// Counts the turns of a core past the first `cut` in a tally that has none yet.
+fn count_past(
+    alloc: Global,
+    image: &Image,
+    run: &Run,
+    core: u8,
+    cut: u32,
+    tally: &mut Tally,
+) -> Result<(), AllocError>
+    requires core { core < 2 }
+    requires placed { IsPlaced image.now.segments }
+    requires run { IsRunOf image.now run.now }
+    requires within { cut ≤ length (records core image.now run.now) }
+    requires none { tally.old.steps ≡ 0 }
+    requires known { (opening : Origin) × (past : List Step) × IsTally opening past tally.old }
+    ensures { OnOk result ((opening : Origin) (past : List Step) → IsTally opening past tally.old
+        → IsTally opening (later_from (code_of image.now) past (drop cut (phases_of (code_of image.now) (records core image.now run.now))) (drop cut (records core image.now run.now))) tally.new) }
+{
+    let code = Constants::make(alloc, image.segments.as_slice())?;
+    let phases = phases_in(alloc, &code, image, run, core)?;
+    let mut left = Cursor::make(alloc, image, run, core)?;
+    pass(&mut left, cut);
+    count_left(
+        alloc,
+        &code,
+        &phases.as_slice()[cut as usize..],
+        &mut left,
+        tally,
+    )?;
+    Ok(())
+}
+
 /// The turns of a core past the first `cut`, where a tally has counted none of them yet.
 fn later(
     alloc: Global,
@@ -72,19 +121,8 @@ fn later(
     ensures { IfOk result (λ turns. (opening : Origin) (past : List Step) → IsTally opening past tally
         → turns ≡ turns_past opening.start opening.first (later_from (code_of image.now) past (drop cut (phases_of (code_of image.now) (records core image.now run.now))) (drop cut (records core image.now run.now)))) }
 {
-    let code = Constants::make(alloc, image.segments.as_slice())?;
-    let mut all = Cursor::make(alloc, image, run, core)?;
-    let phases = phases(alloc, &code, &mut all)?;
-    let mut left = Cursor::make(alloc, image, run, core)?;
-    pass(&mut left, cut);
     let mut tally = tally;
-    count_left(
-        alloc,
-        &code,
-        &phases.as_slice()[cut as usize..],
-        &mut left,
-        &mut tally,
-    )?;
+    count_past(alloc, image, run, core, cut, &mut tally)?;
     let (turns, _) = tally.split(alloc)?;
     Ok(turns)
 }

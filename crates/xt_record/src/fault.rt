@@ -2,7 +2,6 @@ ghost use Rattle.std.specs.Prelude.{◌≡◌};
 ghost use Rattle.xt_record.specs.declared.fault.RecordFault.TheVariants.{Memory};
 
 use std::alloc::{AllocError, AllocFailed};
-use thiserror::Error;
 use xt_image::ImageFault;
 
 /// The first rule of a recording that a file breaks, or running out of memory.
@@ -11,43 +10,32 @@ use xt_image::ImageFault;
 /// and `Trailing` for the length of the parts; `Image`; `Options`; `Entry`; then `Turn` and
 /// `Illegal` entry by entry, and `Turn` for what follows the last entry; and `Checkpoint`. Entries
 /// and checkpoints are counted from 0.
-#[derive(Clone, Copy, Debug, Error)]
+#[derive(Clone, Copy)]
 pub enum RecordFault {
     /// The file has fewer bytes than its head, its image and its counts ask for, or the image more
     /// than 8,388,608.
-    #[error("too short")]
     Short,
     /// The first four bytes are not `XTRC`.
-    #[error("no recording")]
     Magic,
     /// The version is this, and not 1 or 2.
-    #[error("version {0}")]
     Version(u32),
     /// The image has this fault.
-    #[error("a fault of its image")]
     Image(ImageFault),
     /// No run accepts the options, or in version 1 a turn count is above 1,000,000.
-    #[error("options")]
     Options,
     /// This is the first entry whose fields are none of an access that the bus serves.
-    #[error("entry {0}")]
     Entry(u32),
     /// The reply of this entry is the second number, and memory answers the third.
-    #[error("entry {0} has the reply {1}, and not {2}")]
     Illegal(u32, u32, u32),
     /// At this step of this core the access is not that of its next entry. The step is the trace's
     /// length where the core ends before the entry.
-    #[error("core {0} at step {1}")]
     Turn(u8, u32),
     /// The file has more bytes than its parts.
-    #[error("more bytes")]
     Trailing,
     /// The first checkpoint that is not the run's, or where the checkpoints of the file or of the
     /// run end before the others.
-    #[error("checkpoint {0}")]
     Checkpoint(u32),
     /// There is not enough memory for the run.
-    #[error("out of memory")]
     Memory,
 }
 

@@ -1,16 +1,16 @@
 -- A core that is found to be in step.
-use Rattle.std.proofs.Common.{◌≡◌, ℕ, true, Option, None, List, get_or, sym, ap, subst}
+use Rattle.std.proofs.Common.{◌≡◌, ℕ, Bool, true, Option, None, List, get_or, sym, ap, subst}
 use Rattle.xt_frames.specs.declared.kinds.HandlerPhase.TheVariants.{Outside}
 use Rattle.xt_frames.specs.Levels.{IsLevel}
 use Rattle.xt_frames.specs.Stacks.{Stack}
 use Rattle.xt_shadow.specs.declared.cores.ShadowCore.{ShadowCore}
 use Rattle.xt_shadow.specs.Shadows.{IsCore, core_state, shown}
 
-module _ (c : ShadowCore) (seen : List (Option ℕ)) (inside : IsCore c) (outside : c.side.phase ≡ Outside) (plain : c.plain ≡ true) (same : seen ≡ c.side.frames.state.seen)
+module _ (c : ShadowCore) (seen : List (Option ℕ)) (near : Bool) (inside : IsCore c) (outside : c.side.phase ≡ Outside) (plain : c.plain ≡ true) (same : seen ≡ c.side.frames.state.seen)
     (level : IsLevel c.side.frames c.side.steps (core_state c).control) (stack : Stack c.side.frames.bounds.range.lo c.side.frames.bounds.range.hi c.side.frames.state.seen c.side.frames.state.frames)
   where
     abbrev found : ShadowCore
-    found = record c { seen = seen; level = true }
+    found = record c { seen = seen; level = true; near = near }
 
     -- nothing that is shown has changed
     pub found_shown : shown found ≡ c.side

@@ -10,3 +10,4 @@ mod Opened
 mod Making
 mod Saw
 mod Finding
+mod Silent

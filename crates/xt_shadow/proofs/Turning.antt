@@ -117,7 +117,7 @@ module _ (code : ℕ → ℕ) (c0 c1 : ShadowCore) (rec : StepRecord) (inside : 
         let now : KnowsOf before.core m (live_in before.frames) others stale = subst (λ (x : Side). KnowsOf x.core m (live_in x.frames) others stale) before_is known in
         let there : S before after =
         seen_in_step code c0.side c0.seen c0.vecbase s t rec m n others stale inside.side begun.outside p.nested p.numbers begun.stack inside.vectors (made.ready lev) made.state made.owb
-        passed.insn passed.sp passed.woe (passed.vectors ∙ made.vectors) passed.saves passed.loads passed.stored (same_len ∙ len) u now in
+        passed.insn passed.sp passed.woe (passed.vectors ∙ made.vectors) passed.access.saves passed.access.loads passed.access.stored (same_len ∙ len) u now in
         subst (λ (a : Side). S a (shown c2)) (sym before_is) (subst (λ (b : Side). S before b) (sym after_is) there)
 
     core : IsCore c2

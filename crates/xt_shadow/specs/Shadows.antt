@@ -23,8 +23,7 @@ use Rattle.xt_frames.specs.declared.kinds.HandlerPhase.TheVariants.{Outside, Nes
 use Rattle.xt_frames.specs.declared.kinds.Judged.{Judged}
 use Rattle.xt_frames.specs.declared.kinds.Judged.TheVariants.{Broken, Whole}
 use Rattle.xt_frames.specs.Frames.{seen_after_write}
-use Rattle.xt_frames.specs.Breaches.{Bounds, is_in_vectors, is_sp, loads_stale, stores_at}
-use Rattle.xt_frames.specs.Breaches.{touches_save_area}
+use Rattle.xt_frames.specs.Breaches.{Bounds, is_in_vectors, is_sp}
 use Rattle.xt_frames.specs.Judging.{Seen}
 use Rattle.xt_frames.specs.Quick.{IsCommon}
 use Rattle.xt_frames.specs.Stacks.{Stack}
@@ -32,10 +31,8 @@ use Rattle.xt_frames.specs.Verdict.{Judgement, Known, judgement, opening_known, 
 use Rattle.xt_frames.specs.Walked.{opening_walked, stack_of}
 use Rattle.xt_frames.specs.Levels.{levelled}
 use Rattle.xt_discipline.specs.declared.bytes.Held.{Held}
-use Rattle.xt_discipline.specs.declared.bytes.Change.TheVariants.{Stored}
 use Rattle.xt_discipline.specs.declared.side.Side.{Side}
 use Rattle.xt_discipline.specs.declared.walk.Walk.{Walk}
-use Rattle.xt_discipline.specs.ByteMarks.{AreChanged, Agrees, either}
 use Rattle.xt_discipline.specs.Sides.{IsSeen, IsSide}
 use Rattle.xt_discipline.specs.Verdicts.{opened0, opened1}
 use Rattle.xt_discipline.specs.Walks.{Knows, Reaches, Turns}
@@ -45,6 +42,7 @@ use Rattle.xt_shadow.specs.declared.cores.End.{End}
 use Rattle.xt_shadow.specs.declared.cores.End.TheVariants.{Is, Lost}
 use Rattle.xt_shadow.specs.declared.walk.ShadowWalk.{ShadowWalk}
 use Rattle.xt_shadow.specs.InStep.{AgreesAt, IsNoEpc1, IsPlain, IsReady}
+use Rattle.xt_shadow.specs.Quiet.{IsPassedBy}
 
 -- the processor's core before the next turn
 abbrev pub core_state : ShadowCore → State
@@ -133,11 +131,7 @@ pub record IsPassedOn (old new : ShadowCore) (m n : List Held) (rec : StepRecord
   pub sp : is_sp rec.write ≡ false
   pub woe : (core_state old).control.ps.woe ≡ true
   pub vectors : special_of (core_state old).control number.vecbase ≡ old.vecbase
-  pub saves : (live0 live1 stale : ℕ → Bool) → Agrees m live0 live1 stale
-      → touches_save_area (either live0 live1) rec.access ≡ false
-  pub loads : (live0 live1 stale : ℕ → Bool) → Agrees m live0 live1 stale
-      → loads_stale (either live0 live1) stale rec.access ≡ false
-  pub stored : AreChanged Stored (stores_at rec.access) m n
+  pub access : IsPassedBy m n rec.access
   pub new_is : new ≡ record old {
     seen = seen_after_write rec.write old.seen;
     side = record old.side { steps = old.side.steps + 1 };

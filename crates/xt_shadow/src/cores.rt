@@ -2,7 +2,7 @@
 #![tactic(auto)]
 
 ghost use Rattle.std.specs.Prelude.{◌≡◌, ◌<◌, ◌+◌, ◌^◌, ℕ, Bool, true, false, IfOk, length};
-ghost use Rattle.xt_isa.specs.Ranges.{in_range};
+ghost use Rattle.xt_isa.specs.declared.Insn.{Insn};
 ghost use Rattle.xt_map.specs.Memory.{constant_byte};
 ghost use Rattle.xt_rows.specs.RowLaws.{IsRegister};
 ghost use Rattle.xt_core.specs.Runs.{IsRunOf};
@@ -18,24 +18,26 @@ ghost use Rattle.xt_discipline.specs.ByteMarks.{KnowsOf};
 ghost use Rattle.xt_discipline.specs.Sides.{live_in, standing_of};
 ghost use Rattle.xt_frames.specs.declared.kinds.HandlerPhase.TheVariants.{Outside};
 ghost use Rattle.xt_frames.specs.Judging.{seen_record};
-ghost use Rattle.xt_shadow.specs.InStep.{AgreesAt, IsNoEpc1};
-ghost use Rattle.xt_rows.specs.Operands.{reads, special_reads};
+ghost use Rattle.xt_shadow.specs.InStep.{AgreesAt};
+ghost use Rattle.xt_shadow.specs.Lookups.{IsTested};
 ghost use Rattle.xt_shadow.specs.Shadows.{IsCore, IsMade, IsOpenedCore, IsPassed, IsReadyFor, IsSeenBy, IsStarted, IsTurned, core_state, records_left, settled, shown};
 
 use crate::file::ShadowFile;
+use crate::instructions::{is_executed, is_in_vectors, is_sp};
+use crate::lookups::{Lookup, Lookups};
+use crate::quiet::passes;
 use crate::replies::Replies;
-use crate::tests::{is_common, is_executed, is_in_vectors, is_no_epc1, is_sp};
+use crate::seeing::see;
 use std::alloc::{AllocError, Global};
-use xt_codec::{Fetch, instruction_at};
+use xt_codec::Fetch;
 use xt_core::{StartedTurn, end_turn};
-use xt_discipline::{Held, Side, loads, saves, store};
+use xt_discipline::{Held, Side};
 use xt_exec::plans::{Effect, Plan};
 use xt_exec::{Regs, plan};
 use xt_frames::{Frames, HandlerPhase, Judged};
 use xt_image::Image;
-use xt_isa::Insn;
 use xt_map::Constants;
-use xt_rows::{cause, highest_register, reads, special_reads};
+use xt_rows::cause;
 use xt_special::number;
 use xt_trace::{Run, StepKind, StepRecord};
 use xt_window::Windows;
@@ -69,6 +71,9 @@ pub struct ShadowCore<'a> {
     pub seen: [Option<u32>; 16],
     /// VECBASE as it opened.
     pub vecbase: u32,
+    /// Whether one of the next three windows may be a frame's. In step no turn moves a window, so
+    /// this stays.
+    pub near: bool,
 }
 
 /// The turns that are left after one with this record: none after a BREAK.
@@ -126,6 +131,7 @@ impl<'a> ShadowCore<'a> {
             plain: true,
             seen: [None; 16],
             vecbase: options.vecbase,
+            near: true,
         })
     }
 
@@ -163,59 +169,47 @@ impl<'a> ShadowCore<'a> {
         }
     }
 
-    /// Whether the instruction reads nothing that the frames do not have.
+    /// Whether no window is in the way of an instruction whose registers lie up to so many windows
+    /// ahead.
     #[inline(always)]
-    fn is_known(&self, i: Insn) -> bool
-        requires { in_range i ≡ true }
-        ensures first { result ≡ true → AgreesAt self.now.seen (core_state self.now) (reads i).0 }
-        ensures second { result ≡ true → AgreesAt self.now.seen (core_state self.now) (reads i).1 }
-        ensures special { result ≡ true → IsNoEpc1 (special_reads i).0 }
-        ensures other { result ≡ true → IsNoEpc1 (special_reads i).1 }
+    fn is_clear(&self, ahead: u8) -> bool
+        requires { ahead < 4 }
     {
-        let (first, second) = reads(i);
-        let (special, other) = special_reads(i);
-        self.agrees(first) && self.agrees(second) && is_no_epc1(special) && is_no_epc1(other)
+        !self.near || self.regs.win.check(ahead).is_none()
     }
 
-    /// Whether no window is in the way of the instruction.
+    /// Whether the instruction that was found at PC can be made in step.
     #[inline(always)]
-    fn is_clear(&self, i: Insn) -> bool
-        requires { in_range i ≡ true }
-    {
-        // (most often no window is near)
-        match self.regs.win.check(3) {
-            None => true,
-            Some(_) => self.regs.win.check(highest_register(i) / 4).is_none(),
-        }
-    }
-
-    /// Whether the instruction at PC can be made in step.
-    #[inline(always)]
-    fn is_ready(&self, i: Insn) -> bool
-        requires { in_range i ≡ true }
-        ensures { result ≡ true → IsReadyFor i self.now }
+    fn is_ready(&self, found: &Lookup) -> bool
+        requires first { IsRegister found.now.first }
+        requires second { IsRegister found.now.second }
+        requires ahead { found.now.ahead < 4 }
+        ensures { result ≡ true → (i : Insn) → IsTested found.now i → IsReadyFor i self.now }
     {
         self.level
-            && is_common(i)
+            && found.is_plain
             && !self.regs.sr.excm()
             && self.regs.sr.vecbase() == self.vecbase
             && !is_in_vectors(self.vecbase, self.regs.pc)
-            && self.is_known(i)
-            && self.is_clear(i)
+            && self.agrees(found.first)
+            && self.agrees(found.second)
+            && self.is_clear(found.ahead)
     }
 
     /// The instruction at the program counter.
     #[inline(always)]
-    fn instruction(&mut self, code: &Constants) -> Plan
+    fn instruction(&mut self, lookups: &mut Lookups) -> Plan
         requires inside { IsCore self.old }
         requires quiet { pending_of (core_state self.old).control ≡ 0 }
         requires goes { (core_state self.old).control.waits ≡ false }
         ensures plan { let s = core_state self.old in
-            IsPlan result s (core_state self.new) (fetched_turn (fetch_at (constant_byte code.now) s.control.pc) (constant_byte code.now) s) }
-        ensures started { IsStarted (constant_byte code.now) self.old self.new }
+            IsPlan result s (core_state self.new) (fetched_turn (fetch_at (constant_byte lookups.old) s.control.pc) (constant_byte lookups.old) s) }
+        ensures started { IsStarted (constant_byte lookups.old) self.old self.new }
         ensures replies { self.new.replies ≡ self.old.replies }
+        ensures code { lookups.new ≡ lookups.old }
     {
-        match instruction_at::<ShadowFile>(code, self.regs.pc) {
+        let found = lookups.at(self.regs.pc);
+        match found.fetch {
             Fetch::Fails(addr) => {
                 self.settle();
                 Plan::Done(self.regs.raise(cause::FETCH_ERROR, Some(addr)))
@@ -225,10 +219,10 @@ impl<'a> ShadowCore<'a> {
                 Plan::Done(self.regs.raise(cause::ILLEGAL_INSTRUCTION, None))
             }
             Fetch::Insn(insn, len) => {
-                if !self.is_ready(insn) {
+                if !self.is_ready(&found) {
                     self.settle();
                 }
-                plan(&mut self.regs, code, insn, len)
+                plan(&mut self.regs, lookups.code(), insn, len)
             }
         }
     }
@@ -237,12 +231,13 @@ impl<'a> ShadowCore<'a> {
     /// instruction.
     #[inline(always)]
     #[tactic(auto, unfolding(xt_exec::specs::Turn::planned_turn))]
-    fn start(&mut self, code: &Constants) -> Plan
+    fn start(&mut self, lookups: &mut Lookups) -> Plan
         requires inside { IsCore self.old }
         ensures plan { let s = core_state self.old in
-            IsPlan result s (core_state self.new) (planned_turn (constant_byte code.now) s) }
-        ensures started { IsStarted (constant_byte code.now) self.old self.new }
+            IsPlan result s (core_state self.new) (planned_turn (constant_byte lookups.old) s) }
+        ensures started { IsStarted (constant_byte lookups.old) self.old self.new }
         ensures replies { self.new.replies ≡ self.old.replies }
+        ensures code { lookups.new ≡ lookups.old }
     {
         match xt_special::entries::pending(&self.regs.sr) {
             Some(level) => {
@@ -257,7 +252,7 @@ impl<'a> ShadowCore<'a> {
                         write: None,
                     })
                 } else {
-                    self.instruction(code)
+                    self.instruction(lookups)
                 }
             }
         }
@@ -265,18 +260,19 @@ impl<'a> ShadowCore<'a> {
 
     /// The first half of the next turn. A turn that makes no access is whole.
     #[inline(always)]
-    fn begin(&mut self, code: &Constants) -> StartedTurn
+    fn begin(&mut self, lookups: &mut Lookups) -> StartedTurn
         requires inside { IsCore self.old }
-        ensures begun { IsBegun result (constant_byte code.now) (core_state self.old) (core_state self.new) }
+        ensures begun { IsBegun result (constant_byte lookups.old) (core_state self.old) (core_state self.new) }
         ensures owb { (core_state self.old).control.ps.owb < 16 }
-        ensures started { IsStarted (constant_byte code.now) self.old self.new }
+        ensures started { IsStarted (constant_byte lookups.old) self.old self.new }
         ensures replies { self.new.replies ≡ self.old.replies }
+        ensures code { lookups.new ≡ lookups.old }
     {
         let pc = self.regs.pc;
         let ccount = self.regs.sr.register(number::CCOUNT);
         let owb = self.regs.sr.owb();
         let interrupt = self.regs.sr.register(number::INTERRUPT);
-        match self.start(code) {
+        match self.start(lookups) {
             Plan::Done(effect) => {
                 tick(&mut self.regs);
                 let record = StepRecord {
@@ -297,16 +293,17 @@ impl<'a> ShadowCore<'a> {
 
     /// The next turn, with the reply that is left for it: its record.
     #[inline(always)]
-    fn next(&mut self, code: &Constants) -> StepRecord
+    fn next(&mut self, lookups: &mut Lookups) -> StepRecord
         requires inside { IsCore self.old }
-        ensures turn { let s = core_state self.old in let code = constant_byte code.now in
+        ensures turn { let s = core_state self.old in let code = constant_byte lookups.old in
             (result, core_state self.new) ≡ turn code s (reply_for (demand code s) self.old.replies) }
         ensures rest { let s = core_state self.old in
-            self.new.replies ≡ replies_past (demand (constant_byte code.now) s) self.old.replies }
+            self.new.replies ≡ replies_past (demand (constant_byte lookups.old) s) self.old.replies }
         ensures owb { (core_state self.old).control.ps.owb < 16 }
-        ensures started { IsStarted (constant_byte code.now) self.old self.new }
+        ensures started { IsStarted (constant_byte lookups.old) self.old self.new }
+        ensures code { lookups.new ≡ lookups.old }
     {
-        match self.begin(code) {
+        match self.begin(lookups) {
             StartedTurn::Local(record) => record,
             StartedTurn::Asks(pending) => {
                 let reply = self.replies.next();
@@ -319,12 +316,13 @@ impl<'a> ShadowCore<'a> {
     ///
     /// Condition: a turn is left.
     #[inline(always)]
-    fn make(&mut self, code: &Constants) -> StepRecord
+    fn make(&mut self, lookups: &mut Lookups) -> StepRecord
         requires inside { IsCore self.old }
         requires left { 0 < self.old.left }
-        ensures { IsMade (constant_byte code.now) self.old self.new result }
+        ensures made { IsMade (constant_byte lookups.old) self.old self.new result }
+        ensures code { lookups.new ≡ lookups.old }
     {
-        let rec = self.next(code);
+        let rec = self.next(lookups);
         self.left = left_past(&rec, self.left - 1);
         rec
     }
@@ -342,11 +340,8 @@ impl<'a> ShadowCore<'a> {
         if !self.regs.sr.woe() || self.regs.sr.vecbase() != self.vecbase {
             return Err(End::Lost);
         }
-        if rec.access.is_some() {
-            if saves(marks, rec.access) || loads(marks, rec.access) {
-                return Err(End::Lost);
-            }
-            store(marks, rec.access);
+        if !passes(marks, rec.access) {
+            return Err(End::Lost);
         }
         if let Some(w) = rec.write {
             if w.reg > 15 {
@@ -365,7 +360,7 @@ impl<'a> ShadowCore<'a> {
         requires outside { self.old.side.phase ≡ Outside }
         ensures inside { IsCore self.new }
         ensures shown { shown self.new ≡ self.old.side }
-        ensures rest { self.new ≡ record self.old { seen = self.new.seen; level = self.new.level } }
+        ensures rest { self.new ≡ record self.old { seen = self.new.seen; level = self.new.level; near = self.new.near } }
     {
         if !self.plain {
             return;
@@ -379,13 +374,20 @@ impl<'a> ShadowCore<'a> {
             &self.regs.sr,
         ) {
             self.seen = self.side.frames.seen();
+            self.near = self.regs.win.check(3).is_some();
             self.level = true;
         }
     }
 
-    /// Judges the record of a turn as a whole.
+    /// Judges the record of a turn as a whole. `special` says that the core was in step before it.
     #[inline(never)]
-    fn judge(&mut self, code: &Constants, marks: &mut [Held], rec: StepRecord) -> Result<(), End>
+    fn judge(
+        &mut self,
+        code: &Constants,
+        marks: &mut [Held],
+        rec: StepRecord,
+        special: bool,
+    ) -> Result<(), End>
         requires inside { IsCore self.old }
         requires level { self.old.level ≡ false }
         requires room { self.old.side.steps + 1 < 2 ^ 32 }
@@ -397,7 +399,7 @@ impl<'a> ShadowCore<'a> {
             → IsSeenBy self.old self.new marks.new others stale
             (seen_record (constant_byte code.now) self.old.side.frames.bounds (standing_of self.old.side) others stale rec) result }
     {
-        if let Err(breach) = self.side.see(code, marks, &rec) {
+        if let Err(breach) = see(&mut self.side, code, marks, &rec, special) {
             return Err(End::Is(Judged::Broken(breach)));
         }
         match self.side.phase {
@@ -410,23 +412,25 @@ impl<'a> ShadowCore<'a> {
 
     /// The next turn of the core, if it has one: no breach, or how the judge ends.
     #[inline(never)]
-    pub fn turn(&mut self, code: &Constants, marks: &mut [Held]) -> Result<(), End>
+    pub fn turn(&mut self, lookups: &mut Lookups, marks: &mut [Held]) -> Result<(), End>
         requires inside { IsCore self.old }
         requires room { self.old.side.steps + 1 < 2 ^ 32 }
         requires len { length marks.old ≡ 0x52000 }
         requires known { (others : ℕ → Bool) × (stale : ℕ → Bool) × KnowsOf (shown self.old).core marks.old (live_in (shown self.old).frames) others stale }
         ensures len { length marks.new ≡ length marks.old }
+        ensures code { lookups.new ≡ lookups.old }
         ensures turned { (others stale : ℕ → Bool) → KnowsOf (shown self.old).core marks.old (live_in (shown self.old).frames) others stale
-            → IsTurned (constant_byte code.now) self.old self.new marks.new others stale result }
+            → IsTurned (constant_byte lookups.old) self.old self.new marks.new others stale result }
     {
         if self.left == 0 {
             return Err(End::Is(Judged::Whole));
         }
-        let rec = self.make(code);
+        let special = self.level;
+        let rec = self.make(lookups);
         if self.level {
             self.pass(marks, &rec)
         } else {
-            self.judge(code, marks, rec)
+            self.judge(lookups.code(), marks, rec, special)
         }
     }
 }

@@ -4,9 +4,12 @@
 
 mod cores;
 mod file;
+mod instructions;
 mod judging;
+mod lookups;
+mod quiet;
 mod replies;
-mod tests;
+mod seeing;
 mod walk;
 
 pub use judging::judge_run;

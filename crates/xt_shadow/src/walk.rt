@@ -11,6 +11,7 @@ ghost use Rattle.xt_discipline.specs.Schedules.{HasSchedule, schedule_in};
 ghost use Rattle.xt_shadow.specs.Shadows.{IsFound, IsFoundIn, IsOpenedWalk, IsWalked, KnowsBoth, judged_from, shown};
 
 use crate::cores::{End, ShadowCore};
+use crate::lookups::Lookups;
 use std::alloc::{AllocError, Global};
 use xt_discipline::{Held, ScheduleIter, opening_marks};
 use xt_frames::Judged;
@@ -21,7 +22,7 @@ use xt_trace::Run;
 /// The judge so far: both cores past the turns that were made, and what is known of memory.
 #[derive(Drop)]
 pub struct ShadowWalk<'a> {
-    pub code: Constants<'a>,
+    pub code: Lookups<'a>,
     pub side0: ShadowCore<'a>,
     pub side1: ShadowCore<'a>,
     /// What is known of each byte of internal data memory.
@@ -36,7 +37,8 @@ impl<'a> ShadowWalk<'a> {
         requires placed { IsPlaced image.now.segments }
         ensures { IfOk result (λ w. IsOpenedWalk image.now run.now w) }
     {
-        let code = Constants::make(alloc, image.segments.as_slice())?;
+        let constants = Constants::make(alloc, image.segments.as_slice())?;
+        let code = Lookups::make(alloc, constants)?;
         let side0 = ShadowCore::open(alloc, image, run, 0)?;
         let side1 = ShadowCore::open(alloc, image, run, 1)?;
         let marks = opening_marks(alloc, &run.options)?;
@@ -57,9 +59,9 @@ impl<'a> ShadowWalk<'a> {
         ensures { (b0 b1 : Bounds) (k : Known) → KnowsBoth self.old b0 b1 k → IsWalked (constant_byte self.old.code) b0 b1 core k self.old self.new result }
     {
         if core == 0 {
-            self.side0.turn(&self.code, &mut self.marks)
+            self.side0.turn(&mut self.code, &mut self.marks)
         } else {
-            self.side1.turn(&self.code, &mut self.marks)
+            self.side1.turn(&mut self.code, &mut self.marks)
         }
     }
 

@@ -67,13 +67,6 @@ fn are_all(a: bool, b: bool, c: bool) -> bool
     a && b && c
 }
 
-// Whether one of two holds.
-fn is_either(a: bool, b: bool) -> bool
-    ensures { result ≡ (a || b) }
-{
-    a || b
-}
-
 // Whether the next turn executes this instruction, which is the one at the program counter and reads a
 // register of time.
 fn is_executed<W: Windows>(r: &Regs<W>, insn: Insn) -> bool
@@ -108,5 +101,5 @@ pub fn uses_time<W: Windows>(r: &Regs<W>, code: &Constants) -> bool
     ensures { result ≡ uses_time (constant_byte code.now) (state_of W.regs W.base W.start r.now) }
 {
     let enabled = r.sr.register(number::INTENABLE) & TIMER_BITS;
-    is_either(enabled != 0, executes_time(r, code))
+    enabled != 0 || executes_time(r, code)
 }

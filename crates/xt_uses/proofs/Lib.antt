@@ -48,7 +48,6 @@ pub mod RowsWords
 pub mod RowsRead
 pub mod RowsReplies
 pub mod RowsWritten
-pub mod Listed
 pub mod UseSteps
 pub mod UseStacks
 pub mod UseMasks

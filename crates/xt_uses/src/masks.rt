@@ -1,7 +1,7 @@
 //! The masks beside a frame state.
 #![tactic(auto)]
 
-ghost use Rattle.std.specs.Prelude.{◌≡◌, ◌<◌, ◌≤◌, ◌*◌, ◌-◌, ◌++◌, ℕ, List, [], None, false, true, drop, if◌then◌else◌, is_some, replicate, slice_index_or, take};
+ghost use Rattle.std.specs.Prelude.{◌≡◌, ◌<◌, ℕ, List, [], None, false, true, if◌then◌else◌, is_some, slice_index_or};
 ghost use Rattle.xt_isa.specs.Ranges.{in_range};
 ghost use Rattle.xt_rows.specs.Kinds.{is_entry, moved_to};
 ghost use Rattle.xt_rows.specs.RowLaws.{IsAny, IsProperWrite, IsRegister, IsShiftAmount, IsWord};
@@ -17,7 +17,9 @@ ghost use Rattle.xt_uses.specs.Words.{all_bits};
 use crate::discipline::Discipline;
 use crate::used::{counted_bits, keeps_unknown};
 use crate::words::{ALL_BITS, Word, whole_word};
-use xt_frames::{FrameRegisters, UndefinedParts, is_return, moved_to};
+use xt_frames::{
+    FrameRegisters, UndefinedParts, after_call, after_return, is_return, kept_of, moved_to,
+};
 use xt_isa::Insn;
 use xt_isa::control::Control;
 use xt_isa::system::{System, UserName};
@@ -68,59 +70,6 @@ pub struct Operands {
     pub y: Word,
     /// Of the special register.
     pub u: Word,
-}
-
-/// The masks of a0 to a11.
-fn kept_masks(seen: &[u32; 16]) -> [u32; 12]
-    ensures { (n : ℕ) → n ≤ 3 → take (4 * n) result ≡ take (4 * n) seen.now }
-{
-    [
-        seen[0], seen[1], seen[2], seen[3], seen[4], seen[5], seen[6], seen[7], seen[8], seen[9],
-        seen[10], seen[11],
-    ]
-}
-
-/// The callee's masks after a call by `n` windows: the caller's from a(4n) on, and nothing is known of the new registers.
-fn after_call(seen: &[u32; 16], n: u8) -> [u32; 16]
-    requires { n < 4 }
-    ensures { result ≡ drop (4 * n) seen.now ++ replicate (4 * n) 0 }
-{
-    match n {
-        0 => *seen,
-        1 => [
-            seen[4], seen[5], seen[6], seen[7], seen[8], seen[9], seen[10], seen[11], seen[12],
-            seen[13], seen[14], seen[15], 0, 0, 0, 0,
-        ],
-        2 => [
-            seen[8], seen[9], seen[10], seen[11], seen[12], seen[13], seen[14], seen[15], 0, 0, 0,
-            0, 0, 0, 0, 0,
-        ],
-        _ => [
-            seen[12], seen[13], seen[14], seen[15], 0, 0, 0, 0, 0, 0, 0, 0, 0, 0, 0, 0,
-        ],
-    }
-}
-
-/// The caller's masks after a return by `n` windows: those that were kept for it, then the callee's.
-fn after_return(kept: &[u32; 12], seen: &[u32; 16], n: u8) -> [u32; 16]
-    requires { n < 4 }
-    ensures { result ≡ take (4 * n) kept.now ++ take (16 - 4 * n) seen.now }
-{
-    match n {
-        0 => *seen,
-        1 => [
-            kept[0], kept[1], kept[2], kept[3], seen[0], seen[1], seen[2], seen[3], seen[4],
-            seen[5], seen[6], seen[7], seen[8], seen[9], seen[10], seen[11],
-        ],
-        2 => [
-            kept[0], kept[1], kept[2], kept[3], kept[4], kept[5], kept[6], kept[7], seen[0],
-            seen[1], seen[2], seen[3], seen[4], seen[5], seen[6], seen[7],
-        ],
-        _ => [
-            kept[0], kept[1], kept[2], kept[3], kept[4], kept[5], kept[6], kept[7], kept[8],
-            kept[9], kept[10], kept[11], seen[0], seen[1], seen[2], seen[3],
-        ],
-    }
 }
 
 #[tactic(auto, unfolding(xt_rows::specs::Kinds::is_entry))]
@@ -249,8 +198,8 @@ impl TopMasks {
         ensures few { KeepsFew result }
     {
         if is_entry(i) {
-            let masks = kept_masks(&self.seen);
-            self.seen = after_call(&self.seen, by);
+            let masks = kept_of(&self.seen);
+            self.seen = after_call(&self.seen, by, 0);
             return Keep::Keeps(KeptMasks { by, masks });
         }
         if is_return(i) {

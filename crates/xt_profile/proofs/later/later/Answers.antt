@@ -1,51 +1,9 @@
-use Rattle.std.proofs.Common.{◌≡◌, ◌+◌, ◌-◌, ◌<◌, ◌≤◌, ◌^◌, ℕ, List, drop, length, take, sym, ap, subst, ◌∙◌, arith}
-use Rattle.std.proofs.lemmas.List.{length-drop, take_rest}
-use Rattle.xt_map.specs.Memory.{constant_byte}
-use Rattle.xt_frames.specs.declared.kinds.HandlerPhase.{HandlerPhase}
-use Rattle.xt_discipline.specs.Phases.{phases_of}
-use Rattle.xt_trace.specs.declared.record.StepRecord.{StepRecord}
-use Rattle.xt_core.specs.Runs.{code_of}
-use Rattle.xt_profile.specs.Profiled.{records}
-use Rattle.xt_profile.proofs.PastCut.{few_records, later_turns, phases_are}
 use Rattle.xt_profile.proofs.later.later.Goals as goal
-
-pub slice_bounds-count_left-count : goal.slice_bounds-count_left-count
-slice_bounds-count_left-count c =
-    let len : length c.as_slice-2.result.now ≡ length (records c.args.core c.args.image.now c.args.run.now) =
-    phases_are (constant_byte c.in_ok-code.code) c.as_slice-2.result.now c.in_ok-phases.phases c.in_ok-all.all (records c.args.core c.args.image.now c.args.run.now) c.as_slice-2.ensures c.in_ok-phases.ensures c.in_ok-all.ensures in
-    subst (λ (n : ℕ). c.args.cut ≤ n) (sym len) c.requires.within
-
-pub slice_bounds-count_left-start : goal.slice_bounds-count_left-start
-slice_bounds-count_left-start c =
-    let len : length c.as_slice-2.result.now ≡ length (records c.args.core c.args.image.now c.args.run.now) =
-    phases_are (constant_byte c.in_ok-code.code) c.as_slice-2.result.now c.in_ok-phases.phases c.in_ok-all.all (records c.args.core c.args.image.now c.args.run.now) c.as_slice-2.ensures c.in_ok-phases.ensures c.in_ok-all.ensures in
-    subst (λ (n : ℕ). c.args.cut ≤ n) (sym len) c.requires.within
-
-few_enough : (s p l n m : ℕ) → s ≡ 0 → p ≡ l - n → l ≡ m → m ≤ 4000000 → s + p < 4294967296
-few_enough s p l n m e f g h = omega (arith, e, f, g, h)
-
-pub count_left-requires-clause-room : goal.count_left-requires-clause-room
-count_left-requires-clause-room c =
-    let now = c.as_slice-2.result.now in
-    let all = records c.args.core c.args.image.now c.args.run.now in
-    let len : length now ≡ length all = phases_are (constant_byte c.in_ok-code.code) now c.in_ok-phases.phases c.in_ok-all.all all c.as_slice-2.ensures c.in_ok-phases.ensures c.in_ok-all.ensures in
-    let part : length (take (length now - c.args.cut) (drop c.args.cut now)) ≡ length now - c.args.cut = ap (λ (l : List HandlerPhase). length l) (take_rest now c.args.cut) ∙ length-drop c.args.cut now in
-    few_enough c.args.tally.steps (length (take (length now - c.args.cut) (drop c.args.cut now))) (length now) c.args.cut (length all) c.requires.none part len (few_records c.args.core c.args.image.now c.args.run.now c.requires.run.valid)
 
 pub split-requires : goal.split-requires
 split-requires c =
     let q = c.requires.known in
-    record { known = (q.0, _, c.in_ok-count_left.ensures q.0 q.1 q.2) }
+    record { known = (q.0, _, c.in_ok-count_past.ensures q.0 q.1 q.2) }
 
 pub returns : goal.returns
-returns c o past h =
-    let now = c.as_slice-2.result.now in
-    let cut = c.args.cut in
-    let code = constant_byte c.in_ok-code.code in
-    let all = records c.args.core c.args.image.now c.args.run.now in
-    let code_is : code ≡ code_of c.args.image.now = ap constant_byte (c.in_ok-code.ensures ∙ c.as_slice.ensures) in
-    let phases_is : now ≡ phases_of (code_of c.args.image.now) all =
-    c.as_slice-2.ensures ∙ (c.in_ok-phases.ensures ∙ (ap (λ (f : ℕ → ℕ). phases_of f c.in_ok-all.all) code_is ∙ ap (λ (l : List StepRecord). phases_of (code_of c.args.image.now) l) c.in_ok-all.ensures)) in
-    later_turns o past code (code_of c.args.image.now) (take (length now - cut) (drop cut now)) (drop cut (phases_of (code_of c.args.image.now) all)) c.pass.new.records (drop cut all) c.in_ok-turns.turns code_is
-    (take_rest now cut ∙ ap (λ (l : List HandlerPhase). drop cut l) phases_is) (c.pass.ensures ∙ ap (λ (l : List StepRecord). drop cut l) c.in_ok-left.ensures)
-    (c.in_ok-turns.ensures.turns o _ (c.in_ok-count_left.ensures o past h))
+returns c o past h = c.in_ok-turns.ensures.turns o _ (c.in_ok-count_past.ensures o past h)

@@ -13,7 +13,7 @@ use Rattle.xt_shadow.proofs.cores.ShadowCore.begin.Goals as goal
 
 pub returns-in-Done-clause-begun : goal.returns-in-Done-clause-begun
 returns-in-Done-clause-begun c =
-    let code = constant_byte c.args.code.now in
+    let code = constant_byte c.args.lookups.now in
     let s = core_state c.args.self.now in
     let t = core_state c.start.new.self in
     let e = c.in-Done.effect in
@@ -41,11 +41,11 @@ returns-in-Done-clause-begun c =
     local_turn_of code s e t (file_state c.tick.new.regs) (head_of s) r (subst P c.in-Done.is c.start.ensures.plan) c.tick.ensures refl told
 
 pub returns-in-Done-clause-started : goal.returns-in-Done-clause-started
-returns-in-Done-clause-started c = started_on (constant_byte c.args.code.now) c.args.self.now c.start.new.self c.tick.new.regs c.start.new.self.replies c.start.ensures.started
+returns-in-Done-clause-started c = started_on (constant_byte c.args.lookups.now) c.args.self.now c.start.new.self c.tick.new.regs c.start.new.self.replies c.start.ensures.started
 
 pub returns-in-Bus-clause-begun : goal.returns-in-Bus-clause-begun
 returns-in-Bus-clause-begun c =
-    let code = constant_byte c.args.code.now in
+    let code = constant_byte c.args.lookups.now in
     let s = core_state c.args.self.now in
     let t = core_state c.start.new.self in
     let P : Plan → Type 0 = λ p. IsPlan p s t (planned_turn code s) in

@@ -7,12 +7,12 @@ use Rattle.xt_shadow.proofs.cores.ShadowCore.judge.Goals as goal
 pub find_level-requires-clause-inside : goal.find_level-requires-clause-inside
 find_level-requires-clause-inside c =
     let q = c.requires.known in
-    core_outside c.args.self.now c.see.new.self c.see.new.marks q.0 q.1 (constant_byte c.args.code.now) c.args.rec c.in_default.field-0 c.requires.inside c.requires.level (c.in_default.ensures.seen q.0 q.1 q.2) c.in-Outside.is
+    core_outside c.args.self.now c.see.new.side c.see.new.marks q.0 q.1 (constant_byte c.args.code.now) c.args.rec c.in_default.field-0 c.requires.inside c.requires.level (c.in_default.ensures.seen q.0 q.1 q.2) c.in-Outside.is
 
 pub returns-in-InHandler-clause-seen : goal.returns-in-InHandler-clause-seen
 returns-in-InHandler-clause-seen c = λ others stale known.
     let old = c.args.self.now in
-    let new = c.see.new.self in
+    let new = c.see.new.side in
     let code = constant_byte c.args.code.now in
     let saw = c.in_default.ensures.seen others stale known in
     let core : ShadowCore = record old { side = new } in

@@ -12,7 +12,7 @@ use Rattle.xt_shadow.proofs.cores.ShadowCore.next.Goals as goal
 
 pub returns-in-Local-clause-turn : goal.returns-in-Local-clause-turn
 returns-in-Local-clause-turn c =
-    let code = constant_byte c.args.code.now in
+    let code = constant_byte c.args.lookups.now in
     let s = core_state c.args.self.now in
     let B : StartedTurn → Type 0 = λ x. IsBegun x code s (core_state c.begin.new.self) in
     let local = subst B c.in-Local.is c.begin.ensures.begun in
@@ -20,7 +20,7 @@ returns-in-Local-clause-turn c =
 
 pub returns-in-Local-clause-rest : goal.returns-in-Local-clause-rest
 returns-in-Local-clause-rest c =
-    let code = constant_byte c.args.code.now in
+    let code = constant_byte c.args.lookups.now in
     let s = core_state c.args.self.now in
     let B : StartedTurn → Type 0 = λ x. IsBegun x code s (core_state c.begin.new.self) in
     let local = subst B c.in-Local.is c.begin.ensures.begun in
@@ -28,7 +28,7 @@ returns-in-Local-clause-rest c =
 
 pub returns-in-Asks-clause-turn : goal.returns-in-Asks-clause-turn
 returns-in-Asks-clause-turn c =
-    let code = constant_byte c.args.code.now in
+    let code = constant_byte c.args.lookups.now in
     let s = core_state c.args.self.now in
     let t = core_state c.begin.new.self in
     let B : StartedTurn → Type 0 = λ x. IsBegun x code s t in
@@ -37,7 +37,7 @@ returns-in-Asks-clause-turn c =
 
 pub returns-in-Asks-clause-rest : goal.returns-in-Asks-clause-rest
 returns-in-Asks-clause-rest c =
-    let code = constant_byte c.args.code.now in
+    let code = constant_byte c.args.lookups.now in
     let s = core_state c.args.self.now in
     let B : StartedTurn → Type 0 = λ x. IsBegun x code s (core_state c.begin.new.self) in
     let half = subst B c.in-Asks.is c.begin.ensures.begun in
@@ -46,4 +46,4 @@ returns-in-Asks-clause-rest c =
     ∙ ap (λ (d : Option Access). replies_past d c.args.self.now.replies) (sym half.asks))
 
 pub returns-in-Asks-clause-started : goal.returns-in-Asks-clause-started
-returns-in-Asks-clause-started c = started_on (constant_byte c.args.code.now) c.args.self.now c.begin.new.self c.end.new.r c.next-reply.new.self c.begin.ensures.started
+returns-in-Asks-clause-started c = started_on (constant_byte c.args.lookups.now) c.args.self.now c.begin.new.self c.end.new.r c.next-reply.new.self c.begin.ensures.started

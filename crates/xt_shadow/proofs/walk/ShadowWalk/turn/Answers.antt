@@ -1,8 +1,11 @@
-use Rattle.std.proofs.Common.{List, length, ◌∙◌, ap, arith}
+use Rattle.std.proofs.Common.{List, length, sym, ◌∙◌, ap, subst, arith}
+use Rattle.std.specs.Vec.{with_items}
+use Rattle.xt_map.specs.Memory.{constant_byte}
+use Rattle.xt_map.specs.declared.segment.Segment.{Segment}
 use Rattle.xt_discipline.specs.declared.bytes.Held.{Held}
 use Rattle.xt_discipline.specs.Sides.{live_in}
 use Rattle.xt_discipline.proofs.Walking.{one_of}
-use Rattle.xt_shadow.specs.Shadows.{shown}
+use Rattle.xt_shadow.specs.Shadows.{IsWalked, shown}
 use Rattle.xt_shadow.proofs.Turning.{shown_steps}
 use Rattle.xt_shadow.proofs.Walking.{knows_0, knows_1, walked_one, walked_zero}
 use Rattle.xt_shadow.proofs.walk.ShadowWalk.turn.Goals as goal
@@ -38,10 +41,14 @@ turn-requires-else-core-eq0 c =
 pub returns-then-core-eq0 : goal.returns-then-core-eq0
 returns-then-core-eq0 c b0 b1 k h =
     let d = c.deref_mut.ensures in
-    walked_zero c.args.self.now c.turn.new.self c.deref_mut.result.now c.turn.new.marks b0 b1 k c.args.core c.turn.result c.if-core-eq0.true h d.value d.len c.turn.ensures.len c.turn.ensures.turned
+    let w = c.args.self.now in
+    let W : List Segment → Type 0 = λ x. IsWalked (constant_byte w.code) b0 b1 c.args.core k w (record { code = x; side0 = c.turn.new.self; side1 = w.side1; marks = with_items w.marks c.turn.new.marks }) c.turn.result in
+    subst W (sym c.turn.ensures.code) (walked_zero w c.turn.new.self c.deref_mut.result.now c.turn.new.marks b0 b1 k c.args.core c.turn.result c.if-core-eq0.true h d.value d.len c.turn.ensures.len c.turn.ensures.turned)
 
 pub returns-else-core-eq0 : goal.returns-else-core-eq0
 returns-else-core-eq0 c b0 b1 k h =
     let d = c.deref_mut-else-core-eq0.ensures in
-    walked_one c.args.self.now c.turn-else-core-eq0.new.self c.deref_mut-else-core-eq0.result.now c.turn-else-core-eq0.new.marks b0 b1 k c.args.core c.turn-else-core-eq0.result (one_of c.args.core c.requires.core c.if-core-eq0.false) h d.value d.len c.turn-else-core-eq0.ensures.len
-    c.turn-else-core-eq0.ensures.turned
+    let w = c.args.self.now in
+    let W : List Segment → Type 0 = λ x. IsWalked (constant_byte w.code) b0 b1 c.args.core k w (record { code = x; side0 = w.side0; side1 = c.turn-else-core-eq0.new.self; marks = with_items w.marks c.turn-else-core-eq0.new.marks }) c.turn-else-core-eq0.result in
+    subst W (sym c.turn-else-core-eq0.ensures.code) (walked_one w c.turn-else-core-eq0.new.self c.deref_mut-else-core-eq0.result.now c.turn-else-core-eq0.new.marks b0 b1 k c.args.core c.turn-else-core-eq0.result (one_of c.args.core c.requires.core c.if-core-eq0.false) h d.value d.len c.turn-else-core-eq0.ensures.len
+    c.turn-else-core-eq0.ensures.turned)

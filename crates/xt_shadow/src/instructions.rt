@@ -1,4 +1,4 @@
-//! What is tested of an instruction that is made in step.
+//! What is tested of an instruction and of its record.
 #![tactic(auto)]
 
 ghost use Rattle.std.specs.Prelude.{◌≡◌, true};
