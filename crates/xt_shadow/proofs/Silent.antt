@@ -1,8 +1,8 @@
 -- An access to bytes of which nothing is known shows no breach, and changes no mark.
-use Rattle.std.proofs.Common.{◌≡◌, ℕ, zero, suc, ◌+◌, ◌-◌, ◌<◌, ◌≤◌, ◌&&◌, ◌||◌, Bool, true, false, not, cond, leb, ltb, Option, Some, None, List, refl, sym, ◌∙◌, ap, subst, arith, ⊎_elim}
+use Rattle.std.proofs.Common.{◌≡◌, ℕ, zero, suc, ◌+◌, ◌-◌, ◌<◌, ◌≤◌, ◌&&◌, Bool, true, false, leb, ltb, Option, Some, None, List, refl, sym, ◌∙◌, ap, subst, arith, ⊎_elim}
 use Rattle.std.proofs.lemmas.Bool.{and_parts, and_right, cases_Bool, cond-false, cond-true, leb-true, ltb-true, or_from}
 use Rattle.xt_map.specs.declared.access.Access.{Access}
-use Rattle.xt_map.specs.Touching.{is_load, is_store, touches}
+use Rattle.xt_map.specs.Touching.{is_store, touches}
 use Rattle.xt_frames.specs.Breaches.{loads_stale, some_byte, stores_at, touches_save_area}
 use Rattle.xt_discipline.specs.declared.bytes.Held.{Held}
 use Rattle.xt_discipline.specs.declared.bytes.Change.TheVariants.{Stored}

@@ -2,7 +2,6 @@
 #![tactic(auto)]
 
 ghost use Rattle.std.specs.Prelude.{◌≡◌, true};
-ghost use Rattle.xt_special.specs.Numbers as numbers;
 ghost use Rattle.xt_frames.specs.Quick.{IsCommon};
 ghost use Rattle.xt_frames.specs.Breaches.{is_in_vectors, is_sp};
 ghost use Rattle.xt_shadow.specs.InStep.{IsNoEpc1};

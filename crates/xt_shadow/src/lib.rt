@@ -1,5 +1,5 @@
-//! The judge of a run of an image, whose turns the processor makes again: while a core and its frames are in step, most turns are judged
-//! by a few tests of what the processor holds.
+//! The judge of a run of an image. It makes the turns of both cores again. While a core and its
+//! frames are in step, a few tests of what the processor holds judge most turns.
 #![tactic(auto)]
 
 mod cores;

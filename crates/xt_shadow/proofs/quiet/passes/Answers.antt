@@ -1,4 +1,3 @@
-use Rattle.std.proofs.Common.{refl}
 use Rattle.xt_shadow.proofs.Silent.{quiet_loads, quiet_saves, quiet_stores}
 use Rattle.xt_shadow.proofs.quiet.passes.Goals as goal
 

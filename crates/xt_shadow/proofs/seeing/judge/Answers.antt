@@ -1,10 +1,6 @@
 use Rattle.std.proofs.Common.{◌≡◌, ℕ, ◌+◌, Bool, Result, Ok, Err, length, false, refl, sym, ◌∙◌, ap, subst, rules}
 use Rattle.xt_map.specs.Memory.{constant_byte}
-use Rattle.xt_trace.specs.declared.record.StepKind.{StepKind}
 use Rattle.xt_frames.specs.declared.kinds.Breach.{Breach}
-use Rattle.xt_frames.specs.declared.kinds.HandlerPhase.{HandlerPhase}
-use Rattle.xt_frames.specs.declared.kinds.HandlerPhase.TheVariants.{Outside, InHandler}
-use Rattle.xt_frames.specs.HandlerSteps.{phase_after}
 use Rattle.xt_frames.specs.Judging.{seen_record, seen_step}
 use Rattle.xt_frames.specs.Walked.{Walked, found_in}
 use Rattle.xt_discipline.specs.declared.side.Side.{Side}
