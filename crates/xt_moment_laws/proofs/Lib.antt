@@ -1,0 +1,5 @@
+mod Masks
+mod Clocks
+mod Moments
+mod Worlds
+mod OneOutcome

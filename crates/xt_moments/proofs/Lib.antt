@@ -1,0 +1,4 @@
+mod Turned
+mod Opens
+mod CodeBytes
+mod Orders
