@@ -1,6 +1,7 @@
 -- A turn fits by its record and the state after it.
-use Rattle.std.proofs.Common.{◌≡◌, ℕ, zero, suc, ◌<◌, Bool, true, false, cond, not, ◌&&◌, ◌||◌, Option, Some, None, List, refl, ap, ◌∙◌, arith, ne_eqb}
+use Rattle.std.proofs.Common.{◌≡◌, ℕ, zero, suc, ◌<◌, Bool, true, false, cond, not, ◌&&◌, ◌||◌, Option, Some, None, List, refl, sym, ap, ◌∙◌, arith, ne_eqb}
 use Rattle.std.specs.Prelude.{◌==◌}
+use Rattle.std.proofs.lemmas.Bool.{true≢false}
 use Rattle.xt_trace.specs.declared.record.RegWrite.{RegWrite}
 use Rattle.xt_trace.specs.declared.record.StepRecord.{StepRecord}
 use Rattle.xt_special.specs.Control.{Control}
@@ -52,6 +53,14 @@ never : (b : Bool) → (b && false) ≡ false
 never true = refl
 never false = refl
 
+pub not_false : (b : Bool) → not b ≡ false → b ≡ true
+not_false true h = refl
+not_false false h = absurd (true≢false h)
+
+pub not_true : (b : Bool) → not b ≡ true → b ≡ false
+not_true true h = absurd (true≢false (sym h))
+not_true false h = refl
+
 some_left : (n : ℕ) → 0 < n → (n == 0) ≡ false
 some_left zero h = absurd (omega arith)
 some_left (suc n) h = ne_eqb (suc n) 0 (λ (e : suc n ≡ 0). omega arith)
@@ -67,6 +76,11 @@ module _ (code : ℕ → ℕ) (timed : Bool) (ms : List ℕ) (s : Side State) wh
   pub bars_misfit : 0 < s.left → side_bars code timed s ≡ false → fits code ms s.state ≡ false → next_bars code timed ms s ≡ true
   bars_misfit some e f =
       ap (λ (b : Bool). b || misfits code ms s) e ∙ ap (λ (b : Bool). not b && not (fits code ms s.state)) (some_left s.left some) ∙ ap not f
+
+  -- by whether a turn that uses no time fits
+  pub bars_by_fit : 0 < s.left → side_bars code timed s ≡ false → (b : Bool) → b ≡ fits code ms s.state → b ≡ not (next_bars code timed ms s)
+  bars_by_fit some e true f = ap not (sym (bars_none e (sym f)))
+  bars_by_fit some e false f = ap not (sym (bars_misfit some e (sym f)))
 
   module _ (ps : List Place) (c : ℕ) where
     pub local_is : (b : Bool) → 0 < s.left → next_bars code timed ms s ≡ false → is_own_access ps c (demand code s.state) ≡ b → is_local code timed ms ps c s ≡ b

@@ -54,6 +54,8 @@ impl Side {
     {
         let ahead = self.ahead(code, opening, changes);
         serve(ahead.record.access, opening, changes)?;
-        Ok((self.past(&ahead, timed), ahead.record))
+        let mut side = self.copy();
+        side.come_past(&ahead, timed);
+        Ok((side, ahead.record))
     }
 }

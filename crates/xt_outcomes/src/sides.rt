@@ -3,7 +3,7 @@ ghost use Rattle.std.specs.Prelude.{◌≡◌, ◌<◌, true, false, length};
 ghost use Rattle.xt_window.specs.Ring.{visible};
 ghost use Rattle.xt_outcomes.specs.SideMarks.{mixed, side_mark};
 
-use crate::turns::regs_kept;
+use crate::turns::leave_time;
 use std::marker::Model;
 use xt_exec::Regs;
 use xt_special::{Ps, Special};
@@ -120,9 +120,10 @@ impl Side {
         } else {
             options.stack1
         };
-        let regs = Regs::open(core, pc, options.vecbase, stack.hi, WindowFile::new());
+        let mut regs = Regs::open(core, pc, options.vecbase, stack.hi, WindowFile::new());
+        leave_time(&mut regs, timed);
         Side {
-            regs: regs_kept(regs, timed),
+            regs,
             left: if timed { turns } else { 1 },
             stopped: false,
         }

@@ -91,7 +91,7 @@ impl<'a> Timed<'a> {
 }
 
 impl<'a> Timed<'a> {
-    ghost use Rattle.std.specs.Prelude.{true, false, IfOk, IfSome, IfNone, OnOk};
+    ghost use Rattle.std.specs.Prelude.{true, false, not, IfOk, IfSome, IfNone, OnOk};
     ghost use Rattle.xt_exec.specs.Chips.{processor};
     ghost use Rattle.xt_search.specs.Meetings.{after};
     ghost use Rattle.xt_changes.specs.Changed.{IsLean, contents_of};
@@ -132,8 +132,10 @@ impl<'a> Timed<'a> {
         ensures spot { IfOk result (λ w. spot_of self.now.opening.contents w ≡ spot_forgotten self.now.dead.masks.items (spot_of self.now.opening.contents world.now)) }
         ensures lean { IfOk result (λ w. w.changes.value ≡ world.now.changes.value) }
     {
-        let side0 = world.side(0).forgetting(&self.dead);
-        let side1 = world.side(1).forgetting(&self.dead);
+        let mut side0 = world.side(0).copy();
+        side0.forget(&self.dead);
+        let mut side1 = world.side(1).copy();
+        side1.forget(&self.dead);
         let changes = world.changes.copy(self.alloc)?;
         let next = desk.shared.world(self.alloc, side0, side1, changes)?;
         Ok(next)
@@ -167,67 +169,61 @@ impl<'a> Timed<'a> {
         ))
     }
 
-    // The next turn of a core, which has one left; None: the search has to end before it. The only error is
+    // Whether the search need not end before a core's next turn, which is this one. The only error is
     // running out of memory.
-    fn ahead(
+    fn is_free(
         &self,
         desk: &mut Desk,
         side: &Side,
         core: u8,
-        changes: &Changes,
-    ) -> Result<Option<Ahead>, AllocError>
+        ahead: &Ahead,
+    ) -> Result<bool, AllocError>
         requires left { 0 < side.now.left }
-        ensures free { IfOk result (λ r. IfSome r (λ a. next_bars (constant_byte self.now.code) self.now.timed self.now.dead.masks.items side.now ≡ false)) }
-        ensures ahead { IfOk result (λ r. IfSome r (λ a. IsAhead (constant_byte self.now.code) side.now.state (contents_of self.now.opening.contents changes.now) a)) }
-        ensures barred { IfOk result (λ r. IfNone r (next_bars (constant_byte self.now.code) self.now.timed self.now.dead.masks.items side.now ≡ true)) }
+        ensures { (m : MemoryContents) → IsAhead (constant_byte self.now.code) side.now.state m ahead.now → IfOk result (λ b. b ≡ not (next_bars (constant_byte self.now.code) self.now.timed self.now.dead.masks.items side.now)) }
     {
         if side.bars(&self.code, self.timed) {
-            return Ok(None);
+            return Ok(false);
         }
-        let ahead = side.ahead(&self.code, &self.opening, changes);
-        if !self.is_fit(desk, side, core, &ahead)? {
-            return Ok(None);
-        }
-        Ok(Some(ahead))
+        let fits = self.is_fit(desk, side, core, ahead)?;
+        Ok(fits)
     }
 
-    // The next turn of a core, if it meets nothing of the other core. The only error is running out of
-    // memory.
+    // Puts the next turn of a core in place of another one, and answers whether it meets nothing of the
+    // other core. The only error is running out of memory.
     fn local(
         &self,
         desk: &mut Desk,
         side: &Side,
         core: u8,
         changes: &Changes,
-    ) -> Result<Option<Ahead>, AllocError>
-        ensures local { IfOk result (λ r. IfSome r (λ a. is_local (constant_byte self.now.code) self.now.timed self.now.dead.masks.items self.now.places.list.items core side.now ≡ true)) }
-        ensures left { IfOk result (λ r. IfSome r (λ a. 0 < side.now.left)) }
-        ensures ahead { IfOk result (λ r. IfSome r (λ a. IsAhead (constant_byte self.now.code) side.now.state (contents_of self.now.opening.contents changes.now) a)) }
-        ensures none { IfOk result (λ r. IfNone r (is_local (constant_byte self.now.code) self.now.timed self.now.dead.masks.items self.now.places.list.items core side.now ≡ false)) }
+        ahead: &mut Ahead,
+    ) -> Result<bool, AllocError>
+        ensures local { IfOk result (λ b. b ≡ is_local (constant_byte self.now.code) self.now.timed self.now.dead.masks.items self.now.places.list.items core side.now) }
+        ensures left { IfOk result (λ b. b ≡ true → 0 < side.now.left) }
+        ensures ahead { IfOk result (λ b. b ≡ true → IsAhead (constant_byte self.now.code) side.now.state (contents_of self.now.opening.contents changes.now) ahead.new) }
     {
         if side.left() == 0 {
-            return Ok(None);
+            return Ok(false);
         }
-        let Some(ahead) = self.ahead(desk, side, core, changes)? else {
-            return Ok(None);
-        };
-        if !self.places.is_own(core, ahead.record.access) {
-            return Ok(None);
+        side.look_ahead(&self.code, &self.opening, changes, ahead);
+        if !self.is_free(desk, side, core, ahead)? {
+            return Ok(false);
         }
-        Ok(Some(ahead))
+        Ok(self.places.is_own(core, ahead.record.access))
     }
 
-    // The core after its next turn, whose access is served. The only error is running out of memory.
-    fn go_on(&self, side: &Side, ahead: &Ahead, changes: &mut Changes) -> Result<Side, AllocError>
-        requires left { 0 < side.now.left }
-        requires ahead { IsAhead (constant_byte self.now.code) side.now.state (contents_of self.now.opening.contents changes.old) ahead.now }
-        ensures side { IfOk result (λ s. s ≡ side_next (processor (constant_byte self.now.code)) self.now.timed self.now.dead.masks.items side.now.left side.now (contents_of self.now.opening.contents changes.old)) }
-        ensures memory { OnOk result (contents_of self.now.opening.contents changes.new ≡ memory_given (processor (constant_byte self.now.code)) side.now.left side.now.state (contents_of self.now.opening.contents changes.old)) }
+    // A core makes its next turn, whose access is served. The only error is running out of memory.
+    fn go_on(&self, side: &mut Side, ahead: &Ahead, changes: &mut Changes) -> Result<(), AllocError>
+        requires left { 0 < side.old.left }
+        requires ahead { IsAhead (constant_byte self.now.code) side.old.state (contents_of self.now.opening.contents changes.old) ahead.now }
+        ensures side { OnOk result (side.new ≡ side_next (processor (constant_byte self.now.code)) self.now.timed self.now.dead.masks.items side.old.left side.old (contents_of self.now.opening.contents changes.old)) }
+        ensures memory { OnOk result (contents_of self.now.opening.contents changes.new ≡ memory_given (processor (constant_byte self.now.code)) side.old.left side.old.state (contents_of self.now.opening.contents changes.old)) }
         ensures lean { OnOk result (IsLean self.now.opening.contents changes.old → IsLean self.now.opening.contents changes.new) }
     {
         serve(ahead.record.access, &self.opening, changes)?;
-        let past = side.past(ahead, self.timed);
-        Ok(past.forgetting(&self.dead))
+        side.come_past(ahead, self.timed);
+        side.forget(&self.dead);
+        Ok(())
     }
 
     /// Whether the places tell of the next turn of a core.
@@ -256,17 +252,18 @@ impl<'a> Timed<'a> {
     fn watch_turn(
         &self,
         desk: &mut Desk,
-        side: &Side,
+        side: &mut Side,
         core: u8,
         changes: &mut Changes,
-    ) -> Result<Side, AllocError> {
+    ) -> Result<(), AllocError> {
         if side.left() == 0 {
-            return Ok(side.copy());
+            return Ok(());
         }
-        match self.ahead(desk, side, core, changes)? {
-            Some(ahead) => self.go_on(side, &ahead, changes),
-            None => Ok(side.copy()),
+        let ahead = side.ahead(&self.code, &self.opening, changes);
+        if !self.is_free(desk, side, core, &ahead)? {
+            return Ok(());
         }
+        self.go_on(side, &ahead, changes)
     }
 
     // So many turns of a core more. The only error is running out of memory.
@@ -280,7 +277,7 @@ impl<'a> Timed<'a> {
     ) -> Result<Side, AllocError> {
         let mut side = side;
         for _ in 0..turns {
-            side = self.watch_turn(desk, &side, core, changes)?;
+            self.watch_turn(desk, &mut side, core, changes)?;
         }
         Ok(side)
     }
@@ -347,17 +344,19 @@ impl<'a> Timed<'a> {
             let run = self.run_to(desk, world, core, first.copy(), changes, 1)?;
             return Ok(Some(run));
         }
-        let Some(ahead) = self.ahead(desk, first, core, &changes)? else {
+        let mut ahead = first.ahead(&self.code, &self.opening, &changes);
+        if !self.is_free(desk, first, core, &ahead)? {
             return Ok(None);
-        };
-        let mut side = self.go_on(first, &ahead, &mut changes)?;
+        }
+        let mut side = first.copy();
+        self.go_on(&mut side, &ahead, &mut changes)?;
         let mut turns = 1;
         for made in 0..self.most_local {
-            let Some(ahead) = self.local(desk, &side, core, &changes)? else {
+            if !self.local(desk, &side, core, &changes, &mut ahead)? {
                 let run = self.run_to(desk, world, core, side, changes, turns)?;
                 return Ok(Some(run));
-            };
-            side = self.go_on(&side, &ahead, &mut changes)?;
+            }
+            self.go_on(&mut side, &ahead, &mut changes)?;
             turns += 1;
         }
         let run = self.run_to(desk, world, core, side, changes, turns)?;

@@ -47,18 +47,16 @@ fn left_after(left: u32, stops: bool, timed: bool) -> u32
     }
 }
 
-// The registers that are kept: without time, where it is not timed.
-pub(crate) fn regs_kept(regs: Regs<WindowFile>, timed: bool) -> Regs<WindowFile>
-    requires { IsShaped (file_state regs) }
-    ensures state { file_state result ≡ state_kept timed (file_state regs) }
-    ensures shaped { IsShaped (file_state result) }
+/// Leaves time out of registers, where it is not timed.
+pub(crate) fn leave_time(regs: &mut Regs<WindowFile>, timed: bool)
+    requires { IsShaped (file_state regs.old) }
+    ensures state { file_state regs.new ≡ state_kept timed (file_state regs.old) }
+    ensures shaped { IsShaped (file_state regs.new) }
 {
     if timed {
-        return regs;
+        return;
     }
-    let mut kept = regs;
-    clear_time(&mut kept.sr);
-    kept
+    clear_time(&mut regs.sr);
 }
 
 // Whether one of them is true.
@@ -75,16 +73,14 @@ fn stops(kind: StepKind) -> bool
     matches!(kind, StepKind::Stop)
 }
 
-// The registers that are kept, without the ones that are dead.
-fn regs_forgetting(regs: Regs<WindowFile>, dead: &Dead) -> Regs<WindowFile>
-    requires { IsShaped (file_state regs) }
-    ensures state { file_state result ≡ forgotten dead.now.masks.items (file_state regs) }
-    ensures shaped { IsShaped (file_state result) }
+// Leaves the registers out that are dead.
+fn leave_dead(regs: &mut Regs<WindowFile>, dead: &Dead)
+    requires { IsShaped (file_state regs.old) }
+    ensures state { file_state regs.new ≡ forgotten dead.now.masks.items (file_state regs.old) }
+    ensures shaped { IsShaped (file_state regs.new) }
 {
     let mask = dead.at(regs.pc);
-    let mut kept = regs;
-    kept.win = forget(mask, regs.win);
-    kept
+    regs.win = forget(mask, regs.win);
 }
 
 // One turn with the reply that its access gets, and its record.
@@ -145,34 +141,45 @@ impl Side {
         Ahead { regs, record }
     }
 
-    /// The core after its next turn; without time, where it is not timed.
+    /// Puts the core's next turn, with the reply that its access gets, in place of another one.
+    pub(crate) fn look_ahead(
+        &self,
+        code: &Constants,
+        opening: &Memory,
+        changes: &Changes,
+        ahead: &mut Ahead,
+    )
+        requires sizes { HasSizes opening.now.contents }
+        requires bytes { AreBytes (constant_byte code.now) }
+        ensures { IsAhead (constant_byte code.now) self.now.state (contents_of opening.now.contents changes.now) ahead.new }
+    {
+        ahead.regs = self.regs;
+        ahead.record = begun_turn(&mut ahead.regs, code, opening, changes);
+    }
+
+    /// The core comes past its next turn; without time, where it is not timed.
     ///
     /// Condition: the core has a turn left.
-    pub(crate) fn past(&self, ahead: &Ahead, timed: bool) -> Side
-        requires left { 0 < self.now.left }
+    pub(crate) fn come_past(&mut self, ahead: &Ahead, timed: bool)
+        requires left { 0 < self.old.left }
         requires shaped { IsShaped (file_state ahead.now.regs) }
-        ensures { result ≡ record {
+        ensures { self.new ≡ record {
           state = state_kept timed (file_state ahead.now.regs);
-          left = left_past ahead.now.record (more_kept timed (self.now.left - 1));
-          stopped = self.now.stopped || is_stop ahead.now.record.kind;
+          left = left_past ahead.now.record (more_kept timed (self.old.left - 1));
+          stopped = self.old.stopped || is_stop ahead.now.record.kind;
         } }
     {
         let stops = stops(ahead.record.kind);
-        Side {
-            regs: regs_kept(ahead.regs, timed),
-            left: left_after(self.left, stops, timed),
-            stopped: is_either(self.stopped, stops),
-        }
+        self.left = left_after(self.left, stops, timed);
+        self.stopped = is_either(self.stopped, stops);
+        self.regs = ahead.regs;
+        leave_time(&mut self.regs, timed);
     }
 
-    /// The core without the registers that are dead.
-    pub(crate) fn forgetting(&self, dead: &Dead) -> Side
-        ensures { result ≡ side_forgotten dead.now.masks.items self.now }
+    /// Leaves the registers out that are dead.
+    pub(crate) fn forget(&mut self, dead: &Dead)
+        ensures { self.new ≡ side_forgotten dead.now.masks.items self.old }
     {
-        Side {
-            regs: regs_forgetting(self.regs, dead),
-            left: self.left,
-            stopped: self.stopped,
-        }
+        leave_dead(&mut self.regs, dead);
     }
 }
