@@ -1,15 +1,20 @@
 -- A list of outcomes with one more.
-use Rattle.std.proofs.Common.{◌≡◌, ℕ, zero, suc, ◌<◌, ◌≤◌, arith, get_or, length, ltb, ltb-false, Bool, true, false, List, [], ◌∷◌, ◌++◌, Some, take, drop, slice_get, refl, sym, ap, ◌∙◌, subst, inl, inr, ⊎_elim, Less}
+use Rattle.std.proofs.Common.{◌≡◌, ℕ, zero, suc, ◌<◌, ◌≤◌, arith, get_or, length, ltb, ltb-false, Bool, true, false, List, [], ◌∷◌, ◌++◌, Some, take, drop, slice_get, refl, sym, ap, ◌∙◌, subst, ⊎_elim, Less}
 use Rattle.std.proofs.lemmas.Bool.{true≢false}
 use Rattle.std.proofs.lemmas.Option.{slice_get_read, slice_get_within}
-use Rattle.std.specs.Prelude.{if◌then◌else◌}
+use Rattle.std.specs.Prelude.{if◌then◌else◌, map}
+use Rattle.std.specs.List.{All, Contains}
+use Rattle.std.proofs.lemmas.List.{map-append, take-append-drop}
+use Rattle.std.proofs.lemmas.List.Elements.{All-append, All-cons, All-drop, All-take}
+use Rattle.std.proofs.lemmas.List.Elements.{Contains-append_cases, Contains-append_left}
+use Rattle.std.proofs.lemmas.List.Elements.{Contains-append_right}
 use Rattle.std.specs.Ordering.{is_eq, is_lt}
 use Rattle.xt_trace.specs.Chip.{Chip}
 use Rattle.xt_trace.specs.Runs.{Opening}
 use Rattle.xt_exec.specs.State.{State}
-use Rattle.xt_outcomes.specs.Added.{IsAdded}
+use Rattle.xt_outcomes.specs.Added.{IsAdded, place_in}
 use Rattle.xt_outcomes.specs.Endings.{has_ended, outcome_at}
-use Rattle.xt_outcomes.specs.Listing.{AreReal, IsBefore, IsReal, IsRising, Lists, outcome_ordering, place_in}
+use Rattle.xt_outcomes.specs.Listing.{IsBefore, IsReal, IsRising, Lists, outcome_ordering}
 use Rattle.xt_outcomes.specs.Outcomes.{Outcome}
 use Rattle.xt_outcomes.specs.Spots.{Spot}
 use Rattle.xt_outcomes.specs.declared.listing.Found.{Found}
@@ -20,16 +25,30 @@ with_at p xs x = take p xs ++ x ∷ drop p xs
 
 -- ---- what is listed
 
+abbrev outcome_in : Found → Outcome
+outcome_in x = x.outcome
+
 listed_more : (p : ℕ) (xs : List Found) (x : Found) (y : Outcome) → Lists xs y → Lists (with_at p xs x) y
-listed_more p [] x y h = absurd h
-listed_more zero (z ∷ zs) x y h = inr h
-listed_more (suc p) (z ∷ zs) x y h = ⊎_elim (λ (e : z.outcome ≡ y). inl e) (λ (t : Lists zs y). inr (listed_more p zs x y t)) h
+listed_more p xs x y h =
+    let front = map outcome_in (take p xs) in
+    let rest = map outcome_in (drop p xs) in
+    let parts = subst (λ (l : List Outcome). Contains l y)
+    (ap (map outcome_in) (sym (take-append-drop p xs)) ∙ map-append outcome_in (take p xs) (drop p xs)) h in
+    subst (λ (l : List Outcome). Contains l y) (sym (map-append outcome_in (take p xs) (x ∷ drop p xs)))
+    (⊎_elim (Contains-append_left front (x.outcome ∷ rest) y)
+    (λ (t : Contains rest y).
+    Contains-append_right front (x.outcome ∷ rest) y (Contains-append_right (x.outcome ∷ []) rest y t))
+    (Contains-append_cases front rest y parts))
+
+first_is : (y : Outcome) (ys : List Outcome) → Contains (y ∷ ys) y
+first_is y ys = (0, omega arith, refl)
 
 listed_there : (p : ℕ) (xs : List Found) (x : Found) → Lists (with_at p xs x) x.outcome
-listed_there zero [] x = inl refl
-listed_there (suc p) [] x = inl refl
-listed_there zero (z ∷ zs) x = inl refl
-listed_there (suc p) (z ∷ zs) x = inr (listed_there p zs x)
+listed_there p xs x =
+    let rest = map outcome_in (drop p xs) in
+    subst (λ (l : List Outcome). Contains l x.outcome)
+    (sym (map-append outcome_in (take p xs) (x ∷ drop p xs)))
+    (Contains-append_right (map outcome_in (take p xs)) (x.outcome ∷ rest) x.outcome (first_is x.outcome rest))
 
 some_is : {A : Type 0} (x y : A) → Some x ≡ Some y → x ≡ y
 some_is x y h = cc
@@ -37,8 +56,10 @@ some_is x y h = cc
 pub listed_at : (k : ℕ) (xs : List Found) (x : Found) → slice_get xs k ≡ Some x → Lists xs x.outcome
 listed_at zero [] x h = absurd (cc)
 listed_at (suc k) [] x h = absurd (cc)
-listed_at zero (z ∷ zs) x h = inl (ap (λ (w : Found). w.outcome) (some_is z x h))
-listed_at (suc k) (z ∷ zs) x h = inr (listed_at k zs x h)
+listed_at zero (z ∷ zs) x h =
+    subst (Lists (z ∷ zs)) (ap outcome_in (some_is z x h)) (first_is z.outcome (map outcome_in zs))
+listed_at (suc k) (z ∷ zs) x h =
+    Contains-append_right (z.outcome ∷ []) (map outcome_in zs) x.outcome (listed_at k zs x h)
 
 -- what a look at a place says
 pub hit_at : (xs : List Found) (k : ℕ) (x : Found) → k < length xs → x ≡ get_or xs k x → slice_get xs k ≡ Some x
@@ -80,11 +101,13 @@ rising_more (z ∷ zs) x r miss = rising_choice z zs x (is_lt (outcome_ordering 
 -- ---- one more
 
 module _ (P : Chip State) (timed : Bool) (o : Opening State) (addresses : List ℕ) where
-  real_more : (p : ℕ) (xs : List Found) (x : Found) → IsReal P timed o addresses x → AreReal P timed o addresses xs → AreReal P timed o addresses (with_at p xs x)
-  real_more zero [] x is h = (is, tt)
-  real_more (suc p) [] x is h = (is, tt)
-  real_more zero (z ∷ zs) x is h = (is, h)
-  real_more (suc p) (z ∷ zs) x is h = (h.0, real_more p zs x is h.1)
+  abbrev Real : Found → Type 0
+  Real = IsReal P timed o addresses
+
+  real_more : (p : ℕ) (xs : List Found) (x : Found) → Real x → All Real xs → All Real (with_at p xs x)
+  real_more p xs x is h =
+      All-append Real (take p xs) (x ∷ drop p xs) (All-take Real p xs h)
+      (All-cons Real x (drop p xs) is (All-drop Real p xs h))
 
   pub added : (xs : List Found) (x : Found) (k : ℕ) (p : Spot State) → k ≡ place_in xs x.outcome → x.outcome ≡ outcome_at addresses p → IsReal P timed o addresses x
       → ((z : Found) → slice_get xs k ≡ Some z → is_eq (outcome_ordering z.outcome x.outcome) ≡ false) → IsAdded P timed o addresses p xs (with_at k xs x)

@@ -3,10 +3,11 @@
 -- Profile: outcomes rise by the bytes sent, then by how core 0 ended, its program counter, how core
 -- 1 ended, its program counter, and the words. A core that made all its turns comes before one that
 -- stopped.
-use Rattle.std.specs.Prelude.{◌≡◌, ℕ, suc, Bool, true, ◌⊎◌, if◌then◌else◌, List, [], ◌∷◌}
+use Rattle.std.specs.Prelude.{◌≡◌, ℕ, Bool, true, List, [], ◌∷◌, map}
+use Rattle.std.specs.List.{Contains}
 use Rattle.std.specs.declared.cmp.Ordering.{Ordering}
 use Rattle.std.specs.declared.cmp.Ordering.TheVariants.{Less}
-use Rattle.std.specs.Ordering.{is_lt, nat_cmp, ordering_then}
+use Rattle.std.specs.Ordering.{nat_cmp, ordering_then}
 use Rattle.std.specs.Cmp.Lexicographic.{slice_cmp}
 use Rattle.xt_trace.specs.declared.trace.Stop.{Stop}
 use Rattle.xt_trace.specs.declared.trace.Stop.TheVariants as stop
@@ -42,11 +43,6 @@ abbrev pub IsRising : List Found → Type 0
 IsRising [] = Unit {0}
 IsRising (x ∷ xs) = IsBefore x.outcome xs × IsRising xs
 
--- how many are before this outcome, up to the first that is not
-abbrev pub place_in : List Found → Outcome → ℕ
-place_in [] y = 0
-place_in (x ∷ xs) y = if is_lt (outcome_ordering x.outcome y) then suc (place_in xs y) else 0
-
 -- ---- what is listed
 
 -- the order is one of two cores, both have ended after it, and this is its outcome
@@ -56,16 +52,9 @@ pub record IsReal (P : Chip State) (timed : Bool) (o : Opening State) (addresses
   pub ended : have_ended timed (world_after P timed o x.order.items) ≡ true
   pub outcome : x.outcome ≡ outcome_in addresses (world_after P timed o x.order.items)
 
-abbrev pub AreReal :
-    Chip State → (timed : Bool) → Opening State → List ℕ → List Found → Type 0
-AreReal P timed o addresses [] = Unit {0}
-AreReal P timed o addresses (x ∷ xs) =
-    IsReal P timed o addresses x × AreReal P timed o addresses xs
-
 -- one of them has this outcome
 abbrev pub Lists : List Found → Outcome → Type 0
-Lists [] y = ⊥
-Lists (x ∷ xs) y = (x.outcome ≡ y) ⊎ Lists xs y
+Lists xs y = Contains (map (λ (x : Found). x.outcome) xs) y
 
 -- the outcome of each order after which both cores have ended is listed
 abbrev pub HasAllOutcomes :

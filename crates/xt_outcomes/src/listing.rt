@@ -6,9 +6,9 @@ ghost use Rattle.xt_exec.specs.Chips.{processor};
 ghost use Rattle.xt_core.specs.Runs.{code_of, memory_of, opening_of};
 ghost use Rattle.xt_trace.specs.Validity.{IsValid};
 ghost use Rattle.xt_search.specs.Graphs.{IsAt};
-ghost use Rattle.xt_outcomes.specs.Added.{IsAdded};
+ghost use Rattle.xt_outcomes.specs.Added.{IsAdded, place_in};
 ghost use Rattle.xt_outcomes.specs.KeptWorlds.{spot_of};
-ghost use Rattle.xt_outcomes.specs.Listing.{AreReal, HasAllOutcomes, IsRising, outcome_ordering, place_in};
+ghost use Rattle.xt_outcomes.specs.Listing.{HasAllOutcomes, IsReal, IsRising, outcome_ordering};
 ghost use Rattle.xt_outcomes.specs.Searched.{IsComplete, IsSearch};
 ghost use Rattle.xt_outcomes.specs.declared.listing.Found.{Found};
 ghost use Rattle.xt_outcomes.specs.declared.world.World.{World};
@@ -99,7 +99,7 @@ pub fn outcomes_of(
     requires search { IsSearch image.now options.now search.now }
     requires valid { IsValid options.now }
     requires words { All (λ a. a + 4 ≤ 2 ^ 32) words.now }
-    ensures real { IfOk result (λ v. AreReal (processor (code_of image.now)) search.now.machine.timed (opening_of image.now options.now) words.now v.items) }
+    ensures real { IfOk result (λ v. All (IsReal (processor (code_of image.now)) search.now.machine.timed (opening_of image.now options.now) words.now) v.items) }
     ensures all { IfOk result (λ v. IsComplete search.now → HasAllOutcomes (processor (code_of image.now)) search.now.machine.timed (opening_of image.now options.now) words.now v.items) }
     ensures rising { IfOk result (λ v. IsRising v.items) }
 {

@@ -3,10 +3,10 @@ use Rattle.std.proofs.lemmas.Option.{slice_get_read}
 use Rattle.xt_exec.specs.Chips.{processor}
 use Rattle.xt_core.specs.Runs.{code_of, memory_of, opening_of}
 use Rattle.xt_search.proofs.Numbers.{at_kept, at_once}
-use Rattle.xt_outcomes.specs.Added.{IsAdded}
+use Rattle.xt_outcomes.specs.Added.{IsAdded, place_in}
 use Rattle.xt_outcomes.specs.Endings.{has_ended, outcome_at}
 use Rattle.xt_outcomes.specs.KeptWorlds.{spot_of}
-use Rattle.xt_outcomes.specs.Listing.{IsReal, Lists, place_in}
+use Rattle.xt_outcomes.specs.Listing.{IsReal, Lists}
 use Rattle.xt_outcomes.specs.declared.listing.Found.{Found}
 use Rattle.xt_outcomes.specs.declared.world.World.{World}
 use Rattle.xt_outcomes.proofs.Adding.{added, listed_at, listed_before, not_ended}

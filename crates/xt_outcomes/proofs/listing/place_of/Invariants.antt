@@ -1,5 +1,5 @@
 use Rattle.std.proofs.Common.{◌≡◌, ◌+◌, drop}
-use Rattle.xt_outcomes.specs.Listing.{place_in}
+use Rattle.xt_outcomes.specs.Added.{place_in}
 use Rattle.xt_outcomes.proofs.listing.place_of.Given as goal
 
 abbrev pub invariant-loop-found : goal.invariant-loop-found
