@@ -11,7 +11,11 @@ use Rattle.xt_trace.specs.declared.run.Run.{Run}
 use Rattle.xt_handlers.specs.declared.stretch.HandlerVerdict.{HandlerVerdict}
 use Rattle.xt_handlers.specs.declared.stretch.HandlerVerdict.TheVariants.{Yes}
 use Rattle.xt_handlers.specs.declared.Handlers.{Handlers}
-use Rattle.xt_frames.specs.Verdict.{Judgement, judgement, opening_known}
+use Rattle.xt_handlers.specs.CheckAnswers.{handlers_of}
+use Rattle.xt_core.specs.Runs.{code_of, records_of}
+use Rattle.xt_frames.specs.FirstBreach.{Course, by_core, turns}
+use Rattle.xt_frames.specs.declared.kinds.Judged.{Judged}
+use Rattle.xt_frames.specs.Verdict.{Judgement, judgement, opening_known, verdict}
 use Rattle.xt_frames.specs.Walked.{Walked, opening_walked}
 use Rattle.xt_discipline.specs.Schedules.{schedule_in}
 
@@ -45,3 +49,35 @@ judgement_in image r xs ys =
     xs
     ys
     (opening_known (opened0 image r.options).state (opened1 r.options).state)
+
+-- the run to be judged: these records of both cores, in the order of the run's schedule, with how
+-- both cores open
+abbrev pub course_in : Image → Run → List StepRecord → List StepRecord → Course
+course_in image r xs ys = record {
+  code = constant_byte image.segments;
+  bounds = by_core (opened0 image r.options).bounds (opened1 r.options).bounds;
+  opening = by_core (opened0 image r.options).state (opened1 r.options).state;
+  turns = turns (schedule_in r) xs ys;
+}
+
+-- ---- a run of an image, with the records that its history gives
+
+-- the six window handlers pass the check: those of the vectors from the VECBASE of these options on
+abbrev pub are_checked : Image → Options → Bool
+are_checked image o = are_yes (handlers_of (code_of image) o.vecbase)
+
+abbrev pub course_of : Image → Run → Course
+course_of image r = course_in image r (records_of 0 image r).records (records_of 1 image r).records
+
+abbrev pub judgement_of : Image → Run → Judgement
+judgement_of image r =
+    judgement_in image r (records_of 0 image r).records (records_of 1 image r).records
+
+-- What is judged where the handlers have these answers: nothing if one of them is `no`; else the
+-- verdict is the breach at which the walk ends, or that there is none.
+abbrev pub judged_in : Handlers → Image → Run → Judged
+judged_in handlers image r = verdict (are_yes handlers) (judgement_of image r)
+
+-- and where they have those of the vectors from the run's own VECBASE on
+abbrev pub judged_of : Image → Run → Judged
+judged_of image r = judged_in (handlers_of (code_of image) r.options.vecbase) image r

@@ -15,12 +15,12 @@ use Rattle.xt_search.specs.Graphs.{HasAll, OpensWith}
 use Rattle.xt_search.specs.Meetings.{after, run}
 use Rattle.xt_search.proofs.Meeting.{after_append}
 use Rattle.xt_frames.specs.Breaches.{Bounds}
-use Rattle.xt_discipline.specs.Verdicts.{opened0, opened1}
+use Rattle.xt_discipline.specs.Verdicts.{are_checked, opened0, opened1}
 use Rattle.xt_search.specs.Worlds.{IsOrder, Reaches}
 use Rattle.xt_outcomes.specs.Places.{turns_of}
 use Rattle.xt_judged.specs.Laws.{AllAreWholeWhereNoSceneBreaks}
 use Rattle.xt_judged.specs.Orders.{first_scene, scene_after}
-use Rattle.xt_judged.specs.Runs.{AllAreWhole, are_checked}
+use Rattle.xt_judged.specs.Runs.{AllAreWhole}
 use Rattle.xt_judged.specs.Scenes.{Scene, scene_bars, scene_past, scenes_after}
 use Rattle.xt_judged.specs.declared.scene.Scene as kept
 use Rattle.xt_judged.specs.declared.scene.Shown.{Shown}

@@ -17,9 +17,9 @@ use Rattle.xt_frames.specs.Judging.{Seen, Handled, Judges, Breaks}
 use Rattle.xt_frames.specs.Verdict.{Judgement, Known, judgement, passed_0, passed_1, past_handled_0, past_handled_1, past_judged_0, past_judged_1, opening_known, seen_0, seen_1, verdict, verdict_on}
 use Rattle.xt_frames.proofs.FirstBreach.{walk_finds}
 use Rattle.xt_discipline.specs.Schedules.{schedule_in}
-use Rattle.xt_discipline.specs.Verdicts.{judgement_in, opened0, opened1}
+use Rattle.xt_discipline.specs.Verdicts.{are_checked, course_of, judged_of, judgement_in, opened0, opened1}
 use Rattle.xt_judged.specs.OrderFrames.{HasTurnsOf, IsRealBreach, has_pc, run_of_order, turns_in}
-use Rattle.xt_judged.specs.Runs.{IsVerdictOf, are_checked, course_of, judged_of}
+use Rattle.xt_judged.specs.Runs.{IsVerdictOf}
 use Rattle.xt_judged.specs.declared.frames.OrderBreach.{OrderBreach}
 
 same_found : (a b : Option Breach) → verdict_on a ≡ verdict_on b → a ≡ b

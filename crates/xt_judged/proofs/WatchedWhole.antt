@@ -13,7 +13,7 @@ use Rattle.xt_frames.specs.SaveAreas.{Range}
 use Rattle.xt_frames.specs.Stacks.{IsRange}
 use Rattle.xt_frames.specs.Walked.{Walked, opening_walked, stack_of}
 use Rattle.xt_frames.proofs.Stacked.{opening_stack}
-use Rattle.xt_discipline.specs.Verdicts.{opened0, opened1}
+use Rattle.xt_discipline.specs.Verdicts.{are_checked, opened0, opened1}
 use Rattle.xt_discipline.proofs.Opens.{range_of_core}
 use Rattle.xt_search.specs.declared.graph.Graph.{Graph}
 use Rattle.xt_search.specs.Graphs.{HasAll, IsAt, OpensWith}
@@ -23,7 +23,7 @@ use Rattle.xt_outcomes.specs.declared.places.Place.{Place}
 use Rattle.xt_judged.specs.Laws.{AllAreWholeWhereNoSceneBreaks}
 use Rattle.xt_judged.specs.Orders.{first_scene}
 use Rattle.xt_judged.specs.OwnJudges.{Watched, is_within, opening_judge, own_in, range_of, watched_bars, watched_past}
-use Rattle.xt_judged.specs.Runs.{AllAreWhole, are_checked}
+use Rattle.xt_judged.specs.Runs.{AllAreWhole}
 use Rattle.xt_judged.specs.WatchedKept.{AreSettled, Leads, watched_of}
 use Rattle.xt_judged.specs.WatchedSearch.{AreStacksApart, first_watched}
 use Rattle.xt_judged.specs.declared.watched.Watched as kept

@@ -22,13 +22,13 @@ use Rattle.xt_frames.specs.Judging.{opening_standing}
 use Rattle.xt_frames.specs.Verdict.{Judgement, judgement, opening_known, verdict, verdict_on}
 use Rattle.xt_core.specs.Runs as core
 use Rattle.xt_core.specs.Runs.{code_of, opening_of, records_of}
-use Rattle.xt_discipline.specs.Verdicts.{judgement_in, opened0, opened1}
+use Rattle.xt_discipline.specs.Verdicts.{are_checked, judgement_of, opened0, opened1}
 use Rattle.xt_search.specs.Worlds.{IsOrder}
 use Rattle.xt_timeless.proofs.Lists.{alike_refl}
 use Rattle.xt_outcomes.specs.Spots.{spot_in}
 use Rattle.xt_judged.specs.Laws.{AllAreWholeWhereNoSceneBreaks}
 use Rattle.xt_judged.specs.Scenes.{Scene, opening_scene, scene_bars, scene_past, scenes_after}
-use Rattle.xt_judged.specs.Runs.{IsVerdictOf, are_checked}
+use Rattle.xt_judged.specs.Runs.{IsVerdictOf}
 use Rattle.xt_judged.proofs.Verdicts.{verdict_is}
 use Rattle.xt_judged.proofs.Clocked as clocked
 use Rattle.xt_judged.proofs.Sight.{IsKeptStanding}
@@ -149,10 +149,6 @@ abbrev walk_by : Image → Run → Options → Judgement
 walk_by image r o =
     let s = recorded image r in
     judgement (code_of image) (opened0 image o).bounds (opened1 o).bounds (schedule_of s) s.trace0.records s.trace1.records (opening_known (opened0 image o).state (opened1 o).state)
-
--- as `run` goes over it
-abbrev judgement_of : Image → Run → Judgement
-judgement_of image r = judgement_in image r (records_of 0 image r).records (records_of 1 image r).records
 
 walk_is : (image : Image) (r : Run) → core.IsRunOf image r → walk_by image r r.options ≡ judgement_of image r
 walk_is image r is =

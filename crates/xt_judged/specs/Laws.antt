@@ -5,7 +5,8 @@ use Rattle.xt_trace.specs.declared.options.Options.{Options}
 use Rattle.xt_fetch.specs.Code.{AreBytes}
 use Rattle.xt_core.specs.Runs.{code_of}
 use Rattle.xt_search.specs.Worlds.{IsOrder}
-use Rattle.xt_judged.specs.Runs.{AllAreWhole, are_checked}
+use Rattle.xt_discipline.specs.Verdicts.{are_checked}
+use Rattle.xt_judged.specs.Runs.{AllAreWhole}
 use Rattle.xt_judged.specs.Scenes.{scene_bars}
 use Rattle.xt_judged.specs.Orders.{scene_after}
 

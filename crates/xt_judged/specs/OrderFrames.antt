@@ -13,7 +13,8 @@ use Rattle.xt_core.specs.Runs.{records_of}
 use Rattle.xt_machine.specs.Lists.{run_of_list}
 use Rattle.xt_search.specs.Worlds.{IsOrder}
 use Rattle.xt_judged.specs.Once.{HaveOwn}
-use Rattle.xt_judged.specs.Runs.{AllAreWhole, IsVerdictOf, are_checked}
+use Rattle.xt_discipline.specs.Verdicts.{are_checked}
+use Rattle.xt_judged.specs.Runs.{AllAreWhole, IsVerdictOf}
 use Rattle.xt_judged.specs.declared.frames.Frames.{Frames}
 use Rattle.xt_judged.specs.declared.frames.Frames.TheVariants.{Broken, Unchecked, Unknown, Whole}
 use Rattle.xt_judged.specs.declared.frames.OrderBreach.{OrderBreach}

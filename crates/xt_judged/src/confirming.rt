@@ -5,7 +5,7 @@ ghost use Rattle.xt_image.specs.ImageParts.{IsWellFormed};
 ghost use Rattle.xt_core.specs.Runs.{IsRunOf, records_of};
 ghost use Rattle.xt_search.specs.Worlds.{IsOrder};
 ghost use Rattle.xt_judged.specs.OrderFrames.{HasTurnsOf, IsRealBreach, has_pc, turns_in};
-ghost use Rattle.xt_judged.specs.Runs.{judged_of};
+ghost use Rattle.xt_discipline.specs.Verdicts.{judged_of};
 
 use crate::frames::OrderBreach;
 use std::alloc::{AllocError, Global};

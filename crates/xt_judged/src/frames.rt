@@ -4,7 +4,7 @@ ghost use Rattle.xt_trace.specs.Validity.{IsValid};
 ghost use Rattle.xt_image.specs.ImageParts.{IsWellFormed};
 ghost use Rattle.xt_judged.specs.Kept.{IsTree};
 ghost use Rattle.xt_judged.specs.OrderFrames.{AreFrames, place_of};
-ghost use Rattle.xt_judged.specs.Runs.{are_checked};
+ghost use Rattle.xt_discipline.specs.Verdicts.{are_checked};
 
 use crate::apart::{self, search_watched};
 use crate::breaches::{Met, breaches_of};

@@ -3,7 +3,8 @@ ghost use Rattle.std.specs.Prelude.{◌≡◌, true, IfOk};
 ghost use Rattle.xt_map.specs.Placing.{IsPlaced};
 ghost use Rattle.xt_trace.specs.Validity.{IsValid};
 ghost use Rattle.xt_image.specs.ImageParts.{FitsImage};
-ghost use Rattle.xt_judged.specs.Runs.{AllAreWhole, are_checked};
+ghost use Rattle.xt_discipline.specs.Verdicts.{are_checked};
+ghost use Rattle.xt_judged.specs.Runs.{AllAreWhole};
 ghost use Rattle.xt_judged.specs.Searched.{IsSearch};
 
 use crate::breaches::shows_some;

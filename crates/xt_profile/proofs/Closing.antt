@@ -15,7 +15,7 @@ use Rattle.xt_discipline.specs.Phases.{step_phase}
 use Rattle.xt_frames.specs.Verdict.{Known, Judgement, judgement, opening_known}
 use Rattle.xt_frames.specs.Walked.{opening_walked}
 use Rattle.xt_discipline.specs.declared.walk.Walk.{Walk}
-use Rattle.xt_discipline.specs.Verdicts.{judgement_in}
+use Rattle.xt_discipline.specs.Verdicts.{judgement_of}
 use Rattle.xt_discipline.specs.Schedules.{schedule_in}
 use Rattle.xt_discipline.specs.Walks.{IsOpened}
 use Rattle.xt_core.specs.Runs.{IsRunOf, code_of, entry_of}
@@ -140,7 +140,7 @@ at_cut_is core d image r code f xs n count t c code_is xs_is f_is n_is count_is 
 
 -- the judge's walk over the run, as the definition has it
 abbrev judged : Image → Run → Judgement
-judged image r = judgement_in image r (records 0 image r) (records 1 image r)
+judged image r = judgement_of image r
 
 -- what comes of records, read over these constants
 abbrev pub Cut : ℕ → List Segment → Image → Run → List StepRecord → List StepRecord → Tally → Tally

@@ -21,12 +21,12 @@ use Rattle.xt_frames.specs.Verdict.{Judgement, Known, judgement, opening_known, 
 use Rattle.xt_frames.specs.FirstBreach.{Course, IsFirstBreach, IsJudgement, Turn, records_before, records_of, turn_of, turns}
 use Rattle.xt_frames.proofs.FirstBreach.{walk_finds}
 use Rattle.xt_frames.proofs.OneBreach.{is_one}
-use Rattle.xt_discipline.specs.Verdicts.{judgement_in, opened0, opened1}
+use Rattle.xt_discipline.specs.Verdicts.{course_of, judgement_of, opened0, opened1}
 use Rattle.xt_discipline.specs.Schedules.{schedule_in}
 use Rattle.xt_core.specs.Runs as cores
 use Rattle.xt_core.specs.Runs.{IsRunOf, code_of, opening_of}
 use Rattle.xt_profile.specs.ProfileLaws.{IsOnlyEnd, ProfileEndsAtFirstBreach, WithoutBreachAllIsCounted}
-use Rattle.xt_profile.specs.Profiled.{course_of, count_before_cut, end_of, records, turns_seen}
+use Rattle.xt_profile.specs.Profiled.{count_before_cut, end_of, records, turns_seen}
 
 -- ---- what the walk has gone through
 
@@ -190,7 +190,7 @@ module _ (image : Image) (r : Run) where
   opening = opening_known (opened0 image r.options).state (opened1 r.options).state
 
   abbrev judged : Judgement
-  judged = judgement_in image r (records 0 image r) (records 1 image r)
+  judged = judgement_of image r
 
   went_here : Went 0 0 (course_of image r).turns judged
   went_here = went (code_of image) (opened0 image r.options).bounds (opened1 r.options).bounds (schedule_in r) (records 0 image r) (records 1 image r) opening

@@ -15,7 +15,7 @@ use Rattle.xt_profile.specs.declared.changes.Change.TheVariants.{Stays, Calls, R
 use Rattle.xt_profile.specs.Steps.{Step, frames_standing, steps_from}
 use Rattle.xt_profile.specs.After.{calls_after, step_with_change}
 use Rattle.xt_profile.specs.Keys.{functions}
-use Rattle.xt_profile.specs.Profiled.{all_steps, course_of, count_before_cut, end_of, records}
+use Rattle.xt_profile.specs.Profiled.{all_steps, count_before_cut, end_of, records}
 
 -- the function list has one number more than frames stand
 abbrev pub FunctionsAreFrames : Type 0

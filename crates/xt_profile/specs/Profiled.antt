@@ -13,13 +13,12 @@ use Rattle.xt_image.specs.declared.image.Image.{Image}
 use Rattle.xt_trace.specs.declared.record.StepRecord.{StepRecord}
 use Rattle.xt_trace.specs.declared.run.Run.{Run}
 use Rattle.xt_handlers.specs.CheckAnswers.{handlers_of}
-use Rattle.xt_frames.specs.FirstBreach.{Course, by_core, records_before, turns}
+use Rattle.xt_frames.specs.FirstBreach.{records_before}
 use Rattle.xt_frames.specs.declared.kinds.HandlerPhase.TheVariants.{Outside}
 use Rattle.xt_frames.specs.Verdict.{Known}
 use Rattle.xt_frames.specs.Walked.{opening_walked}
 use Rattle.xt_discipline.specs.Phases.{phases_of}
-use Rattle.xt_discipline.specs.Schedules.{schedule_in}
-use Rattle.xt_discipline.specs.Verdicts.{are_yes, judgement_in, opened0, opened1}
+use Rattle.xt_discipline.specs.Verdicts.{are_yes, course_of, judgement_of}
 use Rattle.xt_core.specs.Runs.{code_of, entry_of, records_of}
 use Rattle.xt_profile.specs.declared.profiles.CoreProfile.{CoreProfile}
 use Rattle.xt_profile.specs.declared.profiles.CoreTurns.{CoreTurns}
@@ -35,15 +34,6 @@ use Rattle.xt_profile.specs.Counts.{lines, total}
 abbrev pub records : ℕ → Image → Run → List StepRecord
 records core image r = (records_of core image r).records
 
--- the turns of both cores of a run of an image, in the order of its schedule, to be judged
-abbrev pub course_of : Image → Run → Course
-course_of image r = record {
-  code = code_of image;
-  bounds = by_core (opened0 image r.options).bounds (opened1 r.options).bounds;
-  opening = by_core (opened0 image r.options).state (opened1 r.options).state;
-  turns = turns (schedule_in r) (records 0 image r) (records 1 image r);
-}
-
 abbrev pub turns_seen : Known → ℕ
 turns_seen k = k.steps0 + k.steps1
 
@@ -51,8 +41,7 @@ turns_seen k = k.steps0 + k.steps1
 -- walk of the judge, and the law `profile_ends_at_first_breach` says that `IsFirstBreach` allows it
 -- and no other.
 abbrev pub end_of : Image → Run → ℕ
-end_of image r =
-    turns_seen (judgement_in image r (records 0 image r) (records 1 image r)).known
+end_of image r = turns_seen (judgement_of image r).known
 
 -- how many of these are turns of a core: so many of its records stand before the cut
 abbrev pub count_before_cut : ℕ → Image → Run → ℕ

@@ -7,11 +7,12 @@ use Rattle.xt_trace.specs.Short.{short_schedule}
 use Rattle.xt_core.specs.Runs.{code_of, records_of, IsRunOf}
 use Rattle.xt_frames.specs.Verdict.{Judgement, judgement, opening_known}
 use Rattle.xt_discipline.specs.Schedules.{schedule_in}
-use Rattle.xt_discipline.specs.Verdicts.{judgement_in, opened0, opened1}
-use Rattle.xt_report.specs.Framed.{judgement_of, short_of}
+use Rattle.xt_discipline.specs.Verdicts.{judgement_of, opened0, opened1}
+use Rattle.xt_simulation.specs.Headline as headline
+use Rattle.xt_report.specs.Framed.{short_of}
 
 -- the schedule that is kept is that of the records
-schedule_is : (image : Image) (r : Run) → IsRunOf image r → schedule_in r ≡ short_schedule (short_of image r)
+pub schedule_is : (image : Image) (r : Run) → IsRunOf image r → schedule_in r ≡ short_schedule (short_of image r)
 schedule_is image r h =
     let cs = cores_of r.history in
     ap (λ (ps : List ℕ). schedule cs ps r.trace0.count r.trace1.places r.trace1.count) h.trace0.places_are
@@ -19,7 +20,7 @@ schedule_is image r h =
     ∙ (ap (λ (qs : List ℕ). schedule cs (places_from 0 (records_of 0 image r).records) (length (records_of 0 image r).records) qs r.trace1.count) h.trace1.places_are
     ∙ ap (λ (m : ℕ). schedule cs (places_from 0 (records_of 0 image r).records) (length (records_of 0 image r).records) (places_from 0 (records_of 1 image r).records) m) h.trace1.count_is))
 
-pub judgement_is : (image : Image) (r : Run) → IsRunOf image r → judgement_in image r (records_of 0 image r).records (records_of 1 image r).records ≡ judgement_of image r
+pub judgement_is : (image : Image) (r : Run) → IsRunOf image r → judgement_of image r ≡ headline.judgement_of image.segments image.entry r.options (short_of image r)
 judgement_is image r h =
     let o = r.options in
     let J : List ℕ → Judgement = λ s. judgement (code_of image) (opened0 image o).bounds (opened1 o).bounds s (records_of 0 image r).records (records_of 1 image r).records (opening_known (opened0 image o).state (opened1 o).state) in

@@ -1,3 +1,3 @@
 mod Sending
-pub mod Framing
 pub mod Judging
+pub mod Framing

@@ -10,12 +10,9 @@ use Rattle.xt_exec.specs.State.{State}
 use Rattle.xt_core.specs.Runs.{code_of, records_of, IsRunOf}
 use Rattle.xt_frames.specs.FirstBreach.{judged_of}
 use Rattle.xt_frames.specs.declared.kinds.HandlerPhase.TheVariants.{Outside}
-use Rattle.xt_frames.specs.Verdict.{Judgement}
-use Rattle.xt_handlers.specs.CheckAnswers.{handlers_of}
-use Rattle.xt_discipline.specs.Verdicts.{are_yes}
+use Rattle.xt_discipline.specs.Verdicts.{are_checked, judgement_of}
 use Rattle.xt_simulation.specs.Walking.{Apart}
 use Rattle.xt_simulation.specs.Opening.{Openings, openings_of}
-use Rattle.xt_simulation.specs.Headline as headline
 use Rattle.xt_simulation.specs.Headline.{AreFrames, RunHasMovedFrames}
 
 -- a run with what is kept of its records
@@ -29,10 +26,6 @@ short_of image r = record {
 -- how both machines open
 abbrev pub opening : Image → Run → Openings
 opening image r = openings_of image.segments image.entry r.options
-
--- what is judged of a run, in the order of its own schedule
-abbrev pub judgement_of : Image → Run → Judgement
-judgement_of image r = headline.judgement_of image.segments image.entry r.options (short_of image r)
 
 -- the judged records of a core's trace: all but its handler steps, each with whether it is nested
 abbrev pub judged_of_core : ℕ → Image → Run → List (Bool × StepRecord)
@@ -53,7 +46,7 @@ pub record IsRunOfFrames (image : Image) (r : Run) : Type 0 where
 -- the window handler back what it had.
 abbrev pub IsFramed : Image → Run → Type 0
 IsFramed image r =
-    are_yes (handlers_of (code_of image) r.options.vecbase) ≡ true
+    are_checked image r.options ≡ true
     → Apart (opening image r).range0 (opening image r).range1
     → IsRunOfFrames image r
     × RunHasMovedFrames image.segments image.entry r.options (short_of image r)

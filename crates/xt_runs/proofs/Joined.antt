@@ -1,18 +1,17 @@
 -- What the report says of the window handlers and of the frames, beside the headline.
-use Rattle.std.proofs.Common.{◌≡◌, ℕ, Bool, true, false, None, Option, Some, refl, subst}
+use Rattle.std.proofs.Common.{◌≡◌, ℕ, Bool, true, false, None, Option, Some, refl}
 use Rattle.xt_image.specs.declared.image.Image.{Image}
-use Rattle.xt_core.specs.Runs.{IsRunOf, code_of, records_of}
+use Rattle.xt_core.specs.Runs.{code_of, records_of}
 use Rattle.xt_frames.specs.declared.kinds.Breach.{Breach}
 use Rattle.xt_frames.specs.declared.kinds.Judged.{Judged}
 use Rattle.xt_frames.specs.declared.kinds.Judged.TheVariants as judged
 use Rattle.xt_frames.specs.FirstBreach.{Course, IsFirstBreach, IsJudgement, WalkFindsFirstBreach}
 use Rattle.xt_frames.specs.Verdict.{Judgement, verdict, verdict_on}
 use Rattle.xt_discipline.specs.Schedules.{schedule_in}
-use Rattle.xt_discipline.specs.Verdicts.{are_yes, judgement_in, opened0, opened1}
-use Rattle.xt_report.proofs.Judging.{judgement_is}
-use Rattle.xt_report.specs.Framed.{IsFramed, judgement_of}
+use Rattle.xt_discipline.specs.Verdicts.{are_yes, course_of, judgement_of, opened0, opened1}
+use Rattle.xt_report.specs.Framed.{IsFramed}
 use Rattle.xt_trace.specs.declared.run.Run.{Run}
-use Rattle.xt_runs.specs.Verdicts.{IsFirstOf, IsJudged, course_of, whole_of}
+use Rattle.xt_runs.specs.Verdicts.{IsFirstOf, IsJudged, whole_of}
 
 unchecked_or : (b : Bool) (j : Judgement) (v : Judged) → v ≡ verdict b j → (v ≡ judged.Unchecked → ⊥) → b ≡ true
 unchecked_or true j v e checked = refl
@@ -36,21 +35,18 @@ first_of : (c : Course) (checked : Bool) (j : Judgement) (p : ℕ) → IsFirstBr
 first_of c true j p first = first_on c j.breach p first
 first_of c false j p first = tt
 
-is_first : (image : Image) (r : Run) → WalkFindsFirstBreach → IsRunOf image r → IsFirstOf (course_of image r) (whole_of image r).judged
-is_first image r law of_image =
+is_first : (image : Image) (r : Run) → WalkFindsFirstBreach → IsFirstOf (course_of image r) (whole_of image r).judged
+is_first image r law =
     let c = course_of image r in
-    let xs = (records_of 0 image r).records in
-    let ys = (records_of 1 image r).records in
-    let found : IsJudgement c (judgement_in image r xs ys) =
-    law (code_of image) (opened0 image r.options).bounds (opened1 r.options).bounds (schedule_in r) xs ys (opened0 image r.options).state (opened1 r.options).state in
-    let P : Judgement → Type 0 = λ j. IsFirstBreach c found.place j.breach in
-    first_of c (are_yes (whole_of image r).handlers) (judgement_of image r) found.place (subst P (judgement_is image r of_image) found.first)
+    let found : IsJudgement c (judgement_of image r) =
+    law (code_of image) (opened0 image r.options).bounds (opened1 r.options).bounds (schedule_in r) (records_of 0 image r).records (records_of 1 image r).records (opened0 image r.options).state (opened1 r.options).state in
+    first_of c (are_yes (whole_of image r).handlers) (judgement_of image r) found.place found.first
 
-pub is_judged : (image : Image) (r : Run) → WalkFindsFirstBreach → IsRunOf image r → IsFramed image r → IsJudged image r
-is_judged image r law of_image framed =
+pub is_judged : (image : Image) (r : Run) → WalkFindsFirstBreach → IsFramed image r → IsJudged image r
+is_judged image r law framed =
     let w = whole_of image r in
     record {
-      first = is_first image r law of_image;
+      first = is_first image r law;
       frames = λ some apart. (framed (unchecked_or (are_yes w.handlers) (judgement_of image r) w.judged refl some) apart).0;
       whole = λ e. whole_none (are_yes w.handlers) (judgement_of image r) e;
     }

@@ -16,7 +16,7 @@ use Rattle.xt_uses.specs.declared.discipline.Discipline.TheVariants.{Strict}
 use Rattle.xt_use_walk.specs.Verdicts.{IsUsesOf}
 use Rattle.xt_use_walk.specs.declared.walk.Uses.{Uses}
 use Rattle.xt_use_walk.specs.declared.walk.Uses.TheVariants as uses
-use Rattle.xt_use_report.specs.Held.{course_of, is_checked}
+use Rattle.xt_discipline.specs.Verdicts.{are_checked, course_of}
 use Rattle.xt_use_report.specs.SecretsText.{leak_line}
 use Rattle.xt_secret_walk.specs.Answers.{IsSecretsOf}
 use Rattle.xt_secret_walk.specs.declared.leak.Secrets.{Secrets}
@@ -87,7 +87,7 @@ IsUnmetBy s requirement.Break image r line = line ≡ unmet_break r
 IsUnmetBy s requirement.Whole image r line = line ≡ unmet_whole (whole_of image r).judged
 IsUnmetBy s requirement.Used image r line =
     (found : Uses)
-    × IsUsesOf Strict (is_checked image r) (course_of image r) found
+    × IsUsesOf Strict (are_checked image r.options) (course_of image r) found
     × (line ≡ unmet_used found)
 IsUnmetBy s requirement.RaceFree image r line =
     (found : Option Race)

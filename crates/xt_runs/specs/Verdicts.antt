@@ -2,31 +2,14 @@
 use Rattle.std.specs.Prelude.{◌≡◌, ◌≢◌, ℕ, None, Some}
 use Rattle.xt_trace.specs.declared.run.Run.{Run}
 use Rattle.xt_image.specs.declared.image.Image.{Image}
-use Rattle.xt_core.specs.Runs.{code_of, records_of}
-use Rattle.xt_frames.specs.FirstBreach.{Course, IsFirstBreach, by_core, turns}
-use Rattle.xt_frames.specs.Verdict.{verdict}
+use Rattle.xt_core.specs.Runs.{code_of}
+use Rattle.xt_frames.specs.FirstBreach.{Course, IsFirstBreach}
 use Rattle.xt_frames.specs.declared.kinds.Judged.{Judged}
 use Rattle.xt_frames.specs.declared.kinds.Judged.TheVariants as judged
-use Rattle.xt_handlers.specs.declared.Handlers.{Handlers}
 use Rattle.xt_handlers.specs.CheckAnswers.{handlers_of}
-use Rattle.xt_discipline.specs.Schedules.{schedule_in}
-use Rattle.xt_discipline.specs.Verdicts.{are_yes, opened0, opened1}
-use Rattle.xt_report.specs.Framed.{IsFrameRunOf, judgement_of}
+use Rattle.xt_discipline.specs.Verdicts.{course_of, judged_of, judgement_of}
+use Rattle.xt_report.specs.Framed.{IsFrameRunOf}
 use Rattle.xt_report.specs.declared.whole.Whole.{Whole}
-
--- what is judged of a run of an image whose handlers have these answers: nothing where one of them
--- is `no`; else the first breach of the walk over its records, in the order of its schedule
-abbrev pub judged_of : Handlers → Image → Run → Judged
-judged_of handlers image run = verdict (are_yes handlers) (judgement_of image run)
-
--- the turns of a run in the order of its schedule, with how both cores open
-abbrev pub course_of : Image → Run → Course
-course_of image r = record {
-  code = code_of image;
-  bounds = by_core (opened0 image r.options).bounds (opened1 r.options).bounds;
-  opening = by_core (opened0 image r.options).state (opened1 r.options).state;
-  turns = turns (schedule_in r) (records_of 0 image r).records (records_of 1 image r).records;
-}
 
 -- by the definition over the whole lists of records: no turn before the breach shows one, and its
 -- own turn shows it; or no turn at all shows one
@@ -39,9 +22,11 @@ IsFirstOf course (judged.Broken b) = (p : ℕ) × IsFirstBreach course p (Some b
 -- six vectors from the VECBASE on with which the run opens, and the verdict is that of the run's
 -- records
 abbrev pub whole_of : Image → Run → Whole
-whole_of image r =
-    let handlers = handlers_of (code_of image) r.options.vecbase in
-    record { run = r; handlers = handlers; judged = judged_of handlers image r }
+whole_of image r = record {
+  run = r;
+  handlers = handlers_of (code_of image) r.options.vecbase;
+  judged = judged_of image r;
+}
 
 -- what is so of the verdict of a run of an image
 pub record IsJudged (image : Image) (r : Run) : Type 0 where

@@ -1,6 +1,6 @@
 //! What is found of an image and its run: the answers for its window handlers, and the verdict.
 ghost use Rattle.std.specs.Prelude.{◌≡◌, IfOk, IfSome};
-ghost use Rattle.xt_runs.specs.Verdicts.{IsJudged, judged_of, whole_of};
+ghost use Rattle.xt_runs.specs.Verdicts.{IsJudged, whole_of};
 ghost use Rattle.xt_core.specs.Runs.{IsRunOf};
 ghost use Rattle.xt_image.specs.ImageParts.{IsWellFormed};
 ghost use Rattle.xt_report.specs.Framed.{IsFramed};
@@ -15,22 +15,6 @@ use xt_report::Whole;
 use xt_shadow::judge_run;
 use xt_trace::Run;
 
-// What is judged of a run of an image, over its records, which are made one by one.
-fn verdict(
-    alloc: Global,
-    image: &Image,
-    handlers: &Handlers,
-    run: &Run,
-) -> Result<Judged, AllocError>
-    requires image { IsWellFormed image.now }
-    requires run { IsRunOf image.now run.now }
-    ensures { IfOk result (λ j. j ≡ judged_of handlers.now image.now run.now) }
-{
-    well_formed_is_placed();
-    let judged = judge_run(alloc, image, handlers, run)?;
-    Ok(judged)
-}
-
 // The answers for the window handlers of a run of an image, and its verdict.
 fn findings(alloc: Global, image: &Image, run: &Run) -> Result<(Handlers, Judged), AllocError>
     requires image { IsWellFormed image.now }
@@ -40,7 +24,7 @@ fn findings(alloc: Global, image: &Image, run: &Run) -> Result<(Handlers, Judged
 {
     well_formed_is_placed();
     let handlers = handlers_of(alloc, image, run.options.vecbase)?;
-    let judged = verdict(alloc, image, &handlers, run)?;
+    let judged = judge_run(alloc, image, &handlers, run)?;
     Ok((handlers, judged))
 }
 
@@ -86,10 +70,9 @@ pub fn judged(alloc: Global, image: &Image, run: Run) -> Result<Whole, AllocErro
 
 /// What is so of the verdict of a run of an image.
 ///
-/// Conditions: the run is one of this image, which is framed.
+/// Conditions: the run is framed.
 pub(crate) fn verdict_is_so(image: &Image, run: &Run)
-    requires run { IsRunOf image.now run.now }
-    requires framed { IsFramed image.now run.now }
+    requires { IsFramed image.now run.now }
     ensures { IsJudged image.now run.now }
 {
     verdict_is_first_breach();

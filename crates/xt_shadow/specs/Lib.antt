@@ -3,4 +3,3 @@ pub mod InStep
 pub mod Lookups
 pub mod Quiet
 pub mod Shadows
-pub mod Judging

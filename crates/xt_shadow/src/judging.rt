@@ -3,8 +3,8 @@
 
 ghost use Rattle.std.specs.Prelude.{◌≡◌, IfOk};
 ghost use Rattle.xt_map.specs.Placing.{IsPlaced};
+ghost use Rattle.xt_discipline.specs.Verdicts.{judged_in};
 ghost use Rattle.xt_core.specs.Runs.{IsRunOf};
-ghost use Rattle.xt_shadow.specs.Judging.{judged_in};
 
 use crate::walk::ShadowWalk;
 use std::alloc::{AllocError, Global};

@@ -4,12 +4,11 @@ use Rattle.xt_map.specs.declared.contents.MemoryContents.{MemoryContents}
 use Rattle.xt_trace.specs.declared.record.StepRecord.{StepRecord}
 use Rattle.xt_trace.specs.declared.run.Run.{Run}
 use Rattle.xt_image.specs.declared.image.Image.{Image}
-use Rattle.xt_core.specs.Runs.{code_of, records_of}
 use Rattle.xt_frames.specs.declared.kinds.Breach.{Breach}
 use Rattle.xt_frames.specs.FirstBreach.{Course, IsFirstBreach, IsJudgedTurn}
-use Rattle.xt_handlers.specs.CheckAnswers.{handlers_of}
-use Rattle.xt_discipline.specs.Verdicts.{are_yes}
-use Rattle.xt_simulation.specs.Opening.{Openings, memory_of, openings_of}
+use Rattle.xt_discipline.specs.Verdicts.{are_checked, course_of}
+use Rattle.xt_report.specs.Framed.{opening}
+use Rattle.xt_simulation.specs.Opening.{memory_of}
 use Rattle.xt_simulation.specs.Walking.{Apart}
 use Rattle.xt_uses.specs.declared.discipline.Discipline.TheVariants.{Lenient}
 use Rattle.xt_uses.specs.declared.discipline.Discipline.{Discipline}
@@ -17,21 +16,9 @@ use Rattle.xt_uses.specs.FirstUse.{History, IsFirstUse, IsHistory, carried_count
 use Rattle.xt_uses.specs.UseLaws.{IsUseRun}
 use Rattle.xt_use_walk.specs.declared.walk.Uses.{Uses}
 use Rattle.xt_use_walk.specs.declared.walk.Uses.TheVariants.{Unchecked, Whole, Broken}
-use Rattle.xt_use_walk.specs.Verdicts.{IsUsesOf, course_in}
+use Rattle.xt_use_walk.specs.Verdicts.{IsUsesOf}
 use Rattle.xt_use_run.specs.Fillings.{Filling}
 use Rattle.xt_use_run.specs.FillingLaws.{FollowsRecord}
-
--- a run of an image, to be judged: the records of both cores, in the order of its schedule
-abbrev pub course_of : Image → Run → Course
-course_of image r = course_in image r (records_of 0 image r).records (records_of 1 image r).records
-
--- the six window handlers pass their check
-abbrev pub is_checked : Image → Run → Bool
-is_checked image r = are_yes (handlers_of (code_of image) r.options.vecbase)
-
--- how both machines open
-abbrev pub opening : Image → Run → Openings
-opening image r = openings_of image.segments image.entry r.options
 
 -- the breach that an answer names, if it names one
 abbrev pub found_in : Uses → Option Breach
@@ -61,7 +48,7 @@ pub record AreSo (d : Discipline) (c : Course) (opening : MemoryContents) (uses 
 
 abbrev pub AreUsesSo : Discipline → Image → Run → Uses → Type 0
 AreUsesSo d image r uses =
-    is_checked image r ≡ true
+    are_checked image r.options ≡ true
     → Apart (opening image r).range0 (opening image r).range1
     → AreSo d (course_of image r) (memory_of (opening image r)) uses
 
@@ -82,9 +69,10 @@ pub record AreLater (d : Discipline) (c : Course) (checked : Bool) (uses : Uses)
       d ≡ Lenient → checked ≡ true → (p : ℕ) → IsFirstBreach c p None → uses ≡ Whole 0 0
 
 abbrev pub AreUsesLater : Discipline → Image → Run → Uses → Type 0
-AreUsesLater d image r uses = AreLater d (course_of image r) (is_checked image r) uses
+AreUsesLater d image r uses = AreLater d (course_of image r) (are_checked image r.options) uses
 
 -- no other answer is one of the run
 abbrev pub IsOnly : Discipline → Image → Run → Uses → Type 0
 IsOnly d image r uses =
-    (other : Uses) → IsUsesOf d (is_checked image r) (course_of image r) other → other ≡ uses
+    (other : Uses) → IsUsesOf d (are_checked image r.options) (course_of image r) other
+    → other ≡ uses

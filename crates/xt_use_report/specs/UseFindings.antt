@@ -3,10 +3,11 @@ use Rattle.std.specs.Prelude.{◌≡◌, ℕ, List}
 use Rattle.xt_trace.specs.declared.run.Run.{Run}
 use Rattle.xt_image.specs.declared.image.Image.{Image}
 use Rattle.xt_core.specs.Runs.{code_of}
+use Rattle.xt_discipline.specs.Verdicts.{are_checked, course_of}
 use Rattle.xt_uses.specs.declared.discipline.Discipline.{Discipline}
 use Rattle.xt_use_walk.specs.declared.walk.Uses.{Uses}
 use Rattle.xt_use_walk.specs.Verdicts.{IsUsesOf}
-use Rattle.xt_use_report.specs.Held.{AreUsesLater, AreUsesSo, IsOnly, course_of, is_checked}
+use Rattle.xt_use_report.specs.Held.{AreUsesLater, AreUsesSo, IsOnly}
 use Rattle.xt_use_report.specs.UsesText.{uses_text}
 
 -- This is the text of what this discipline of uses says of the run, and it says nothing else of it.
@@ -14,7 +15,7 @@ use Rattle.xt_use_report.specs.UsesText.{uses_text}
 -- does.
 pub record IsUsesTold (d : Discipline) (image : Image) (r : Run) (text : List ℕ) : Type 0 where
   pub uses : Uses
-  pub is_uses : IsUsesOf d (is_checked image r) (course_of image r) uses
+  pub is_uses : IsUsesOf d (are_checked image r.options) (course_of image r) uses
   pub text_is : text ≡ uses_text (code_of image) uses
   pub only : IsOnly d image r uses
   pub so : AreUsesSo d image r uses

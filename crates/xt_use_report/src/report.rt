@@ -3,8 +3,9 @@ ghost use Rattle.std.specs.Prelude.{IfOk};
 ghost use Rattle.xt_core.specs.Runs.{IsRunOf};
 ghost use Rattle.xt_rows.specs.RowLaws.{IsWord};
 ghost use Rattle.xt_image.specs.ImageParts.{IsWellFormed};
+ghost use Rattle.xt_discipline.specs.Verdicts.{are_checked, course_of};
 ghost use Rattle.xt_use_walk.specs.Verdicts.{IsUsesOf};
-ghost use Rattle.xt_use_report.specs.Held.{AreUsesLater, AreUsesSo, IsOnly, course_of, is_checked};
+ghost use Rattle.xt_use_report.specs.Held.{AreUsesLater, AreUsesSo, IsOnly};
 
 use std::alloc::{AllocError, Global};
 use xt_core::Cursor;
@@ -40,7 +41,7 @@ pub fn uses_of(
 ) -> Result<Uses, AllocError>
     requires image { IsWellFormed image.now }
     requires run { IsRunOf image.now run.now }
-    ensures uses { IfOk result (IsUsesOf discipline (is_checked image.now run.now) (course_of image.now run.now)) }
+    ensures uses { IfOk result (IsUsesOf discipline (are_checked image.now run.now.options) (course_of image.now run.now)) }
     ensures only { IfOk result (IsOnly discipline image.now run.now) }
     ensures so { IfOk result (AreUsesSo discipline image.now run.now) }
     ensures later { IfOk result (AreUsesLater discipline image.now run.now) }

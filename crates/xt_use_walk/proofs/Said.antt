@@ -22,7 +22,7 @@ use Rattle.xt_use_walk.specs.declared.walk.FirstUse.{FirstUse}
 use Rattle.xt_use_walk.specs.declared.walk.Uses.{Uses}
 use Rattle.xt_use_walk.specs.declared.walk.Uses.TheVariants.{Unchecked, Whole, Broken}
 use Rattle.xt_use_walk.specs.declared.walk.Walk.{Walk}
-use Rattle.xt_use_walk.specs.Verdicts.{IsBroken, IsSaid, IsUsesOf, course_in}
+use Rattle.xt_use_walk.specs.Verdicts.{IsBroken, IsSaid, IsUsesOf}
 use Rattle.xt_use_walk.specs.Walks.{IsOpened, IsShown, IsTold, IsWhole, standing_in}
 use Rattle.xt_use_walk.proofs.Numbered.{record_at}
 

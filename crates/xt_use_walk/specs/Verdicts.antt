@@ -1,14 +1,9 @@
 -- What the discipline of uses says of a run of an image ('profile').
-use Rattle.std.specs.Prelude.{◌≡◌, ℕ, Bool, true, false, Some, None, List}
-use Rattle.xt_map.specs.Memory.{constant_byte}
+use Rattle.std.specs.Prelude.{◌≡◌, ℕ, Bool, true, false, Some}
 use Rattle.xt_map.specs.Regions.{is_mapped}
 use Rattle.xt_map.specs.declared.access.Access.{Access}
-use Rattle.xt_image.specs.declared.image.Image.{Image}
 use Rattle.xt_trace.specs.declared.record.StepRecord.{StepRecord}
-use Rattle.xt_trace.specs.declared.run.Run.{Run}
-use Rattle.xt_frames.specs.FirstBreach.{Course, IsTurn, by_core, turns}
-use Rattle.xt_discipline.specs.Schedules.{schedule_in}
-use Rattle.xt_discipline.specs.Verdicts.{opened0, opened1}
+use Rattle.xt_frames.specs.FirstBreach.{Course, IsTurn}
 use Rattle.xt_uses.specs.declared.discipline.Discipline.{Discipline}
 use Rattle.xt_uses.specs.FirstUse.{History, IsFirstUse, IsHistory, IsVerdict}
 use Rattle.xt_uses.specs.Lacks.{lacks_before}
@@ -19,15 +14,6 @@ use Rattle.xt_use_walk.specs.declared.walk.Uses.TheVariants.{Unchecked, Whole, B
 -- the bus serves the access of a record
 abbrev pub IsServed : StepRecord → Type 0
 IsServed rec = (a : Access) → rec.access ≡ Some a → is_mapped a ≡ true
-
--- the run to be judged: these records of both cores, in the order of the run's schedule
-abbrev pub course_in : Image → Run → List StepRecord → List StepRecord → Course
-course_in image r xs ys = record {
-  code = constant_byte image.segments;
-  bounds = by_core (opened0 image r.options).bounds (opened1 r.options).bounds;
-  opening = by_core (opened0 image r.options).state (opened1 r.options).state;
-  turns = turns (schedule_in r) xs ys;
-}
 
 -- the first breach, its record, and the registers that the record's instruction reads and of which
 -- not every bit is known

@@ -4,8 +4,8 @@
 ghost use Rattle.std.specs.Prelude.{◌≡◌, All, IfOk};
 ghost use Rattle.xt_map.specs.Placing.{IsPlaced};
 ghost use Rattle.xt_discipline.specs.Schedules.{HasSchedule};
-ghost use Rattle.xt_discipline.specs.Verdicts.{are_yes};
-ghost use Rattle.xt_use_walk.specs.Verdicts.{IsServed, IsUsesOf, course_in};
+ghost use Rattle.xt_discipline.specs.Verdicts.{are_yes, course_in};
+ghost use Rattle.xt_use_walk.specs.Verdicts.{IsServed, IsUsesOf};
 
 use crate::walk::{Uses, Walk};
 use std::alloc::{AllocError, Global};

@@ -11,11 +11,8 @@ use Rattle.xt_status.proofs.Writing.{prefix_of, was_appended}
 use Rattle.xt_runs.proofs.running.run_source.Goals as goal
 use Rattle.xt_runs.proofs.running.run_source.Goals.{in-Ok-write_told, in-Err-Failed}
 
-pub verdict_is_so-requires-clause-run : goal.verdict_is_so-requires-clause-run
-verdict_is_so-requires-clause-run g c = let r = c.in-Ok-run_image.ensures in r.of_image
-
-pub verdict_is_so-requires-clause-framed : goal.verdict_is_so-requires-clause-framed
-verdict_is_so-requires-clause-framed g c = let r = c.in-Ok-run_image.ensures in r.framed
+pub verdict_is_so-requires : goal.verdict_is_so-requires
+verdict_is_so-requires g c = let r = c.in-Ok-run_image.ensures in r.framed
 
 pub told_of-requires-clause-run : goal.told_of-requires-clause-run
 told_of-requires-clause-run g c = let r = c.in-Ok-run_image.ensures in r.of_image
