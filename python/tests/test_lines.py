@@ -66,6 +66,7 @@ HAND = (
     ("breach SaveStore core 1 pc 400D0010 order 1*6", "breach",
      {"kind": "SaveStore", "core": 1, "pc": 0x400D0010, "order": "1*6"}),
     ("all", "end", {"answer": "all"}),
+    ("some frames", "end", {"answer": "frames"}),
     ("some states", "end", {"answer": "states"}),
     ("some time core 0 pc 400D0010", "end", {"answer": "time", "core": 0, "pc": 0x400D0010}),
     (".entry 0x40080404", "entry", {"entry": 0x40080404}),

@@ -385,7 +385,7 @@ FORMS: dict[str, list[Form]] = {
     "outcomes": [Form("outcomes", f"outcomes (?P<outcomes>{NUMBER})")],
     "all": [Form("end", "(?P<answer>all)")],
     "some": [
-        Form("end", "some (?P<answer>states)"),
+        Form("end", "some (?P<answer>frames|states)"),
         Form("end", f"some (?P<answer>time) {CORE} pc (?P<pc>{WORD})"),
     ],
     "profile": [Form("profile", "profile (?P<answer>none)")],

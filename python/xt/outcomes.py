@@ -33,7 +33,7 @@ class OrderBreach:
 @dataclass
 class Outcomes:
     """All outcomes. `stuck` and `race` are an order, or `none` or `unknown`; `frames` is `whole`,
-    `none`, `unknown` or `broken`, then with breaches; `end` is `all`, `states` or `time`."""
+    `none`, `unknown` or `broken`, then with breaches; `end` is `all`, `frames`, `states` or `time`."""
 
     outcomes: list[Outcome] = field(default_factory=list)
     stuck: str = "unknown"
@@ -46,8 +46,8 @@ class Outcomes:
 
     @property
     def is_all(self) -> bool:
-        """Whether every order was looked at."""
-        return self.end == "all"
+        """Whether every order was looked at; after `some frames` only for breaches they were not all."""
+        return self.end in ("all", "frames")
 
     @classmethod
     def of(cls, lines: Iterable[Object]) -> Outcomes:

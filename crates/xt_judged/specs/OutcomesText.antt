@@ -1,5 +1,5 @@
 -- What `outcomes` prints ('profile').
-use Rattle.std.specs.Prelude.{◌≡◌, ℕ, Bool, true, false, Option, Some, None, List, [], ◌∷◌}
+use Rattle.std.specs.Prelude.{◌≡◌, ℕ, Bool, true, false, Option, Some, None, List, [], ◌∷◌, ◌++◌}
 use Rattle.std.specs.Prelude.{codes, length, flat_map, option_map}
 use Rattle.std.specs.List.{concat, zip}
 use Rattle.std.specs.Fmt.{decimal}
@@ -20,6 +20,7 @@ use Rattle.xt_judged.specs.RaceLines.{turn_lines}
 use Rattle.xt_judged.specs.FrameLines.{frames_lines}
 use Rattle.xt_judged.specs.OrderFrames.{AreFrames}
 use Rattle.xt_judged.specs.declared.frames.Frames.{Frames}
+use Rattle.xt_judged.specs.declared.frames.Frames.TheVariants as frames
 
 -- ---- an outcome
 
@@ -70,11 +71,18 @@ is_all ending.All = true
 is_all ending.States = false
 is_all (ending.Time core pc) = false
 
--- every order was looked at, or as many worlds were kept as may be, or a turn uses time
-abbrev pub end_line : Ending → List ℕ
-end_line ending.All = codes "all\n"
-end_line ending.States = codes "some states\n"
-end_line (ending.Time core pc) = concat (
+-- every order was looked at, and it is known what is judged of their runs, or not
+abbrev pub all_text : Frames → List ℕ
+all_text frames.Unknown = codes "some frames"
+all_text frames.Unchecked = codes "all"
+all_text frames.Whole = codes "all"
+all_text (frames.Broken breaches) = codes "all"
+
+-- or as many worlds were kept as may be, or a turn uses time
+abbrev pub end_line : Frames → Ending → List ℕ
+end_line f ending.All = all_text f ++ newline
+end_line f ending.States = codes "some states\n"
+end_line f (ending.Time core pc) = concat (
     codes "some time core " ∷ decimal core
     ∷ codes " pc " ∷ hex8 pc
     ∷ newline ∷ [])
@@ -100,7 +108,7 @@ answers_text code addresses a f = concat (
     ∷ race_line (is_all a.ended) a.race
     ∷ turn_lines code a.race
     ∷ frames_lines f
-    ∷ end_line a.ended
+    ∷ end_line f a.ended
     ∷ [])
 
 -- this is the text of what is said of all orders, where each search keeps at most so many states

@@ -4,7 +4,7 @@ ghost use Rattle.std.specs.List.{All};
 ghost use Rattle.xt_map.specs.Memory.{constant_byte};
 ghost use Rattle.xt_trace.specs.Validity.{IsValid};
 ghost use Rattle.xt_image.specs.ImageParts.{IsWellFormed};
-ghost use Rattle.xt_judged.specs.OutcomesText.{IsAnswersText, answers_text, count_line, end_line, is_all, none_text, outcome_text, race_line, stuck_line, stuck_text};
+ghost use Rattle.xt_judged.specs.OutcomesText.{IsAnswersText, all_text, answers_text, count_line, end_line, is_all, none_text, outcome_text, race_line, stuck_line, stuck_text};
 
 use crate::frame_lines::push_frames;
 use crate::frames::{Frames, judge_orders};
@@ -77,12 +77,25 @@ fn is_all(ended: Ending) -> bool
     }
 }
 
+// That every order was looked at, and whether it is known what is judged of their runs.
+fn all_text(frames: &Frames) -> &'static str
+    ensures { result.now ≡ all_text frames.now }
+{
+    match frames {
+        Frames::Unknown => "some frames",
+        Frames::Unchecked | Frames::Whole | Frames::Broken(_) => "all",
+    }
+}
+
 // How the search ended.
-fn end_line(alloc: Global, ended: Ending) -> Result<String, AllocError>
-    ensures { IfOk result (λ line. string_bytes line ≡ end_line ended) }
+fn end_line(alloc: Global, frames: &Frames, ended: Ending) -> Result<String, AllocError>
+    ensures { IfOk result (λ line. string_bytes line ≡ end_line frames.now ended) }
 {
     match ended {
-        Ending::All => format!(in alloc; "all\n"),
+        Ending::All => {
+            let all = all_text(frames);
+            format!(in alloc; "{all}\n")
+        }
         Ending::States => format!(in alloc; "some states\n"),
         Ending::Time(core, pc) => {
             let pc = hexadecimal(alloc, pc)?;
@@ -128,9 +141,9 @@ fn push_outcomes(
 /// and VALUE have eight upper-case hexadecimal digits. LIST is an order, as `run --order` reads it; of
 /// `stuck` and `race` it is `none` where no order is so, and `unknown` where this is not known. F is
 /// `unknown`, `none`, `whole` or `broken`, and a line for each breach that was met stands after
-/// `broken`. The last line is `all` where all orders were looked at, `some states` where as many worlds
-/// are kept as may be, and `some time core C pc ADDR` where a turn uses time. The only error is running
-/// out of memory.
+/// `broken`. The last line is `all` if all orders were looked at, or `some frames` if F is `unknown` then;
+/// `some states` if as many worlds are kept as may be, and `some time core C pc ADDR` if a turn uses time.
+/// The only error is running out of memory.
 pub fn answers_text(
     alloc: Global,
     code: &Constants,
@@ -146,7 +159,7 @@ pub fn answers_text(
     let whole = is_all(answers.ended);
     let stuck = stuck_line(alloc, whole, &answers.stuck)?;
     let race = race_line(alloc, whole, &answers.race)?;
-    let end = end_line(alloc, answers.ended)?;
+    let end = end_line(alloc, frames, answers.ended)?;
     out.extend_from_slice(count.as_bytes())?;
     out.extend_from_slice(stuck.as_bytes())?;
     out.extend_from_slice(race.as_bytes())?;
