@@ -9,5 +9,4 @@ mod Walking
 mod Opened
 mod Making
 mod Saw
-mod Finding
 mod Silent
