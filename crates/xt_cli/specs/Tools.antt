@@ -40,41 +40,43 @@ use Rattle.xt_cli.specs.declared.orders.Order.TheVariants as order
 
 -- ---- what a command makes of its input
 
--- what the input of a command is: a text, an ELF executable, an image, or a recording
-pub data Input : Type 0 where
-  Text : Input
-  Executable : Input
-  AnImage : Input
-  ARecording : Input
-
-abbrev pub input_of : Job → Input
-input_of job.Assemble = Text
-input_of job.Map = Text
-input_of job.Convert = Executable
-input_of (job.List listing) = AnImage
-input_of (job.Check vecbase) = AnImage
-input_of (job.Outcomes options) = AnImage
-input_of _ = ARecording
-
--- the most bytes that it may have
-abbrev pub limit_in : Input → ℕ
-limit_in Text = 1048576
-limit_in Executable = 67108864
-limit_in AnImage = 8388608
-limit_in ARecording = 201326592
-
+-- the most bytes that the input of a command may have: that of a text, of an ELF executable, of an
+-- image, or of a recording
 abbrev pub limit_of : Job → ℕ
-limit_of j = limit_in (input_of j)
+limit_of job.Assemble = 1048576
+limit_of job.Convert = 67108864
+limit_of (job.List listing) = 8388608
+limit_of job.Map = 1048576
+limit_of (job.Check vecbase) = 8388608
+limit_of job.Migrate = 201326592
+limit_of (job.Replay commands b) = 201326592
+limit_of job.Events = 201326592
+limit_of job.Counts = 201326592
+limit_of (job.Trace turns) = 201326592
+limit_of job.Race = 201326592
+limit_of (job.Profile options) = 201326592
+limit_of (job.Uses d) = 201326592
+limit_of (job.Secrets options) = 201326592
+limit_of (job.Outcomes options) = 8388608
 
--- the status with which a whole input is refused, where it is: that of its first fault
-abbrev pub refusal_in : Input → List ℕ → Option Status
-refusal_in Text = text_refusal
-refusal_in Executable = elf_refusal
-refusal_in AnImage = image_refusal
-refusal_in ARecording = recording_refusal
-
+-- the status with which a command refuses a whole input, where it does: that of the input's first
+-- fault
 abbrev pub refusal_of : Job → List ℕ → Option Status
-refusal_of j = refusal_in (input_of j)
+refusal_of job.Assemble input = text_refusal input
+refusal_of job.Convert input = elf_refusal input
+refusal_of (job.List listing) input = image_refusal input
+refusal_of job.Map input = text_refusal input
+refusal_of (job.Check vecbase) input = image_refusal input
+refusal_of job.Migrate input = recording_refusal input
+refusal_of (job.Replay commands b) input = recording_refusal input
+refusal_of job.Events input = recording_refusal input
+refusal_of job.Counts input = recording_refusal input
+refusal_of (job.Trace turns) input = recording_refusal input
+refusal_of job.Race input = recording_refusal input
+refusal_of (job.Profile options) input = recording_refusal input
+refusal_of (job.Uses d) input = recording_refusal input
+refusal_of (job.Secrets options) input = recording_refusal input
+refusal_of (job.Outcomes options) input = image_refusal input
 
 -- what a script prints over the run that a recording holds
 unfoldable pub replay_output : List script.Command → Beyond → List ℕ → List ℕ
