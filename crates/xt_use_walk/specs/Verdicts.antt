@@ -1,5 +1,5 @@
 -- What the discipline of uses says of a run of an image ('profile').
-use Rattle.std.specs.Prelude.{◌≡◌, ℕ, Bool, true, false, Some}
+use Rattle.std.specs.Prelude.{◌≡◌, ℕ, Bool, true, false, Some, None}
 use Rattle.xt_map.specs.Regions.{is_mapped}
 use Rattle.xt_map.specs.declared.access.Access.{Access}
 use Rattle.xt_trace.specs.declared.record.StepRecord.{StepRecord}
