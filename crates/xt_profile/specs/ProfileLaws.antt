@@ -9,6 +9,7 @@ use Rattle.xt_frames.specs.FirstBreach.{Course, IsFirstBreach}
 use Rattle.xt_frames.specs.Frames.{FrameState}
 use Rattle.xt_frames.specs.declared.kinds.HandlerPhase.{HandlerPhase}
 use Rattle.xt_frames.specs.declared.kinds.HandlerPhase.TheVariants.{Outside}
+use Rattle.xt_discipline.specs.Verdicts.{course_of}
 use Rattle.xt_core.specs.Runs.{IsRunOf}
 use Rattle.xt_profile.specs.declared.changes.Change.{Change}
 use Rattle.xt_profile.specs.declared.changes.Change.TheVariants.{Stays, Calls, Returns}

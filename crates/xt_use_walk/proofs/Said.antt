@@ -13,6 +13,7 @@ use Rattle.xt_frames.specs.FirstBreach.{Course, IsTurn, records_before, turns}
 use Rattle.xt_frames.specs.Walked.{opening_walked}
 use Rattle.xt_discipline.specs.Ended.{records_left}
 use Rattle.xt_discipline.specs.Schedules.{schedule_in}
+use Rattle.xt_discipline.specs.Verdicts.{course_in}
 use Rattle.xt_uses.specs.declared.discipline.Discipline.{Discipline}
 use Rattle.xt_uses.specs.FirstUse.{IsFirstUse, IsUse, IsVerdict}
 use Rattle.xt_uses.specs.Lacks.{lacks_before}
