@@ -6,8 +6,8 @@ use Rattle.clap.specs.Words.{App, Rule, Text, new_app, with_rule}
 use Rattle.clap.specs.declared.builder.action.ArgAction.TheVariants.{Append}
 use Rattle.xt_command_line.specs.Arguments.{positional_rule}
 use Rattle.xt_command_line.specs.Options.{flag_rule, option_rule}
-use Rattle.xt_command_line.specs.declared.option_commands.Form.{Form}
-use Rattle.xt_command_line.specs.declared.option_commands.Form.TheVariants as form
+use Rattle.xt_command_line.specs.declared.simple.Form.{Form}
+use Rattle.xt_command_line.specs.declared.simple.Form.TheVariants as form
 
 abbrev pub rule_by : Form → Text → Rule
 rule_by form.Positional name = positional_rule name

@@ -15,4 +15,3 @@ pub mod Depths
 pub mod Outcomes
 pub mod Forms
 pub mod Meaning
-pub mod Views

@@ -51,10 +51,10 @@ name_in (n ∷ rest) word = if bytes_eq word n.0 then Some n.1 else name_in rest
 unfoldable pub command_named : Text → Option Name
 command_named word = name_in names word
 
--- a command that takes no option, by what its simple command matches
-abbrev pub without_options : Command → Option (List Row) → Result Command Refusal
-without_options command (Some rows) = Ok command
-without_options command None = Err (refusal.Usage 3)
+-- what stands for a command that takes no option, by what its simple command matches
+abbrev pub without_options : {A : Type 0} → A → Option (List Row) → Result A Refusal
+without_options answer (Some rows) = Ok answer
+without_options answer None = Err (refusal.Usage 3)
 
 -- a command with what its words say, or the rule of usage that they break
 abbrev pub dis_meaning_of : List Text → Result Command Refusal

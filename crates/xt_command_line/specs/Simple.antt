@@ -2,9 +2,8 @@
 -- program's name.
 -- Source: the definition of a simple command that the crate clap has.
 use Rattle.std.specs.Prelude.{◌≡◌, List, [], ◌∷◌, Option, Some, None, Result, Ok, Err}
-use Rattle.clap.specs.Words.{App, Row, Text, fault_of, found_of, matches_of, rows_of}
+use Rattle.clap.specs.Words.{App, Row, Text, fault_of, matches_of}
 use Rattle.clap.specs.Kinds.{Kinds}
-use Rattle.clap.specs.declared.parser.matches.ArgMatches.{ArgMatches}
 use Rattle.xt_command_line.specs.declared.command.Refusal.{Refusal}
 use Rattle.xt_command_line.specs.declared.command.Refusal.TheVariants as refusal
 
@@ -23,6 +22,6 @@ Refuses refusal.Memory rows = Unit {0}
 Refuses r rows = (r ≡ refusal.Usage 3) × (rows ≡ None)
 
 -- what was matched are the rows
-abbrev pub Matches : Result ArgMatches Refusal → Option (List Row) → Type 0
-Matches (Ok m) rows = rows ≡ Some (rows_of (found_of m))
+abbrev pub Matches : Result (List Row) Refusal → Option (List Row) → Type 0
+Matches (Ok matched) rows = rows ≡ Some matched
 Matches (Err r) rows = Refuses r rows

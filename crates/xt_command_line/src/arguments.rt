@@ -6,10 +6,10 @@ ghost use Rattle.xt_command_line.specs.Simple.{Matches, rows_by};
 
 use crate::command::{Refusal, Rigor};
 use crate::numbers::number;
-use crate::option_commands::{Form, REPLAY, is_true, matches_for, text_of};
+use crate::option_commands::{REPLAY, matches_for};
 use crate::option_words::{DEFAULT_VECBASE, number_or};
 use crate::secrets::{SecretOptions, secrets_in};
-use clap::ArgMatches;
+use crate::simple::{Form, Matched};
 use std::alloc::Global;
 
 // The arguments of `secrets`.
@@ -37,7 +37,7 @@ pub fn check_vecbase(alloc: Global, words: &[String]) -> Result<u32, Refusal>
     ensures valid { IfOk result IsVecbase }
 {
     let matches = matches_for(alloc, "check", &[(Form::Text, "vecbase")], words)?;
-    judge_vecbase(number_or(text_of(&matches, "vecbase"), DEFAULT_VECBASE))
+    judge_vecbase(number_or(matches.text("vecbase"), DEFAULT_VECBASE))
 }
 
 // The number of a text.
@@ -59,7 +59,7 @@ pub fn generator_number(alloc: Global, words: &[String]) -> Result<u32, Refusal>
     ensures { Means result (generator_number_of (map string_bytes words.now)) }
 {
     let matches = matches_for(alloc, "gen", &[(Form::Positional, "number")], words)?;
-    number_from(text_of(&matches, "number"))
+    number_from(matches.text("number"))
 }
 
 /// The text of the script that the words of `replay` have, the first of which stands for the command.
@@ -70,11 +70,11 @@ pub fn script_text<'a>(alloc: Global, words: &'a [String]) -> Result<&'a str, Re
     ensures { MeansAs (λ t. t.now) result (script_text_of (map string_bytes words.now)) }
 {
     let matches = matches_for(alloc, "replay", &REPLAY, words)?;
-    text_of(&matches, "script").ok_or(Refusal::Usage(3))
+    matches.text("script").ok_or(Refusal::Usage(3))
 }
 
 // What `clap` matches on the words of `uses`.
-fn uses_matches<'a>(alloc: Global, words: &'a [String]) -> Result<ArgMatches<'a>, Refusal>
+fn uses_matches<'a>(alloc: Global, words: &'a [String]) -> Result<Matched<'a>, Refusal>
     ensures { Matches result (rows_by uses_app (map string_bytes words.now)) }
 {
     matches_for(alloc, "uses", &[(Form::Flag, "lenient")], words)
@@ -88,7 +88,7 @@ pub fn uses_rigor(alloc: Global, words: &[String]) -> Result<Rigor, Refusal>
     ensures { Means result (rigor_of (map string_bytes words.now)) }
 {
     let matches = uses_matches(alloc, words)?;
-    if is_true(text_of(&matches, "lenient")) {
+    if matches.is_given("lenient") {
         Ok(Rigor::Lenient)
     } else {
         Ok(Rigor::Strict)
@@ -106,7 +106,7 @@ fn needed_secrets(secrets: Option<SecretOptions>) -> Result<SecretOptions, Refus
 }
 
 // What `clap` matches on the words of `secrets`.
-fn secrets_matches<'a>(alloc: Global, words: &'a [String]) -> Result<ArgMatches<'a>, Refusal>
+fn secrets_matches<'a>(alloc: Global, words: &'a [String]) -> Result<Matched<'a>, Refusal>
     ensures { Matches result (rows_by secrets_app (map string_bytes words.now)) }
 {
     matches_for(alloc, "secrets", &SECRETS, words)
@@ -121,10 +121,6 @@ pub fn secret_options(alloc: Global, words: &[String]) -> Result<SecretOptions, 
     ensures { Means result (secret_options_of (map string_bytes words.now)) }
 {
     let matches = secrets_matches(alloc, words)?;
-    let secrets = secrets_in(
-        alloc,
-        text_of(&matches, "secret"),
-        text_of(&matches, "public"),
-    )?;
+    let secrets = secrets_in(alloc, matches.text("secret"), matches.text("public"))?;
     needed_secrets(secrets)
 }

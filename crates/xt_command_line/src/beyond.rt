@@ -4,7 +4,7 @@ ghost use Rattle.xt_command_line.specs.MeaningAnswers.{Means};
 ghost use Rattle.xt_command_line.specs.Beyond.{beyond_of};
 
 use crate::command::Refusal;
-use crate::option_commands::{REPLAY, is_true, matches_for, text_of};
+use crate::option_commands::{REPLAY, matches_for};
 use std::alloc::Global;
 
 /// What becomes of a script at a command that leads beyond the run.
@@ -24,7 +24,7 @@ pub fn script_beyond(alloc: Global, words: &[String]) -> Result<Beyond, Refusal>
     ensures { Means result (beyond_of (map string_bytes words.now)) }
 {
     let matches = matches_for(alloc, "replay", &REPLAY, words)?;
-    if is_true(text_of(&matches, "lenient")) {
+    if matches.is_given("lenient") {
         Ok(Beyond::GoesOn)
     } else {
         Ok(Beyond::Ends)

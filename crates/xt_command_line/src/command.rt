@@ -3,7 +3,7 @@ ghost use Rattle.xt_command_line.specs.declared.command.Refusal.TheVariants.{Mem
 
 use crate::options::RunOptions;
 use crate::outcomes::OutcomeOptions;
-use crate::roots::Roots;
+use crate::roots::Addresses;
 use crate::secrets::SecretOptions;
 use std::alloc::AllocError;
 
@@ -33,7 +33,7 @@ pub struct Openings {
     /// The address where core 1 begins (`--entry1`), in an executable region; none stands for the image's entry.
     pub entry1: Option<u32>,
     /// Further addresses (`--roots`).
-    pub roots: Roots,
+    pub roots: Addresses,
 }
 
 /// Which bytes of an image a listing takes as instructions.

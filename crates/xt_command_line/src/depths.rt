@@ -4,8 +4,9 @@ ghost use Rattle.xt_command_line.specs.MeaningAnswers.{Means};
 ghost use Rattle.xt_command_line.specs.Depths.{judged_depth, profile_options_of};
 
 use crate::command::{ProfileOptions, Refusal};
-use crate::option_commands::{Form, is_true, matches_for, text_of};
+use crate::option_commands::matches_for;
 use crate::option_words::number_or;
+use crate::simple::Form;
 use std::alloc::Global;
 
 // The arguments of `profile`.
@@ -35,7 +36,7 @@ pub fn profile_options(alloc: Global, words: &[String]) -> Result<ProfileOptions
 {
     let matches = matches_for(alloc, "profile", &ARGUMENTS, words)?;
     judge_depth(
-        number_or(text_of(&matches, "depth"), DEFAULT_DEPTH),
-        is_true(text_of(&matches, "after")),
+        number_or(matches.text("depth"), DEFAULT_DEPTH),
+        matches.is_given("after"),
     )
 }

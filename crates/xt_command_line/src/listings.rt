@@ -5,11 +5,11 @@ ghost use Rattle.xt_command_line.specs.Listings.{AreOpenings, IsListing, IsWay, 
 ghost use Rattle.xt_command_line.specs.Simple.{Matches, rows_by};
 
 use crate::command::{Listing, Openings, Refusal, Way};
-use crate::option_commands::{Form, is_true, matches_for, text_of};
+use crate::option_commands::matches_for;
 use crate::option_words::{DEFAULT_VECBASE, given_number, number_or};
 use crate::options::is_good_entry;
-use crate::roots::{Roots, roots_or_none};
-use clap::ArgMatches;
+use crate::roots::{Addresses, roots_or_none};
+use crate::simple::{Form, Matched};
 use std::alloc::Global;
 
 // The arguments of `dis`.
@@ -25,7 +25,7 @@ const ARGUMENTS: [(Form, &str); 5] = [
 fn openings_from(
     vecbase: Option<&str>,
     entry1: Option<&str>,
-    roots: Option<Roots>,
+    roots: Option<Addresses>,
 ) -> Option<Openings>
     ensures { result ≡ openings_with (option_map (λ t. t.now) vecbase.entry) (option_map (λ t. t.now) entry1.entry) roots }
 {
@@ -78,7 +78,7 @@ fn way_from(
 }
 
 // What `clap` matches on the words of `dis`.
-fn dis_matches<'a>(alloc: Global, words: &'a [String]) -> Result<ArgMatches<'a>, Refusal>
+fn dis_matches<'a>(alloc: Global, words: &'a [String]) -> Result<Matched<'a>, Refusal>
     ensures { Matches result (rows_by dis_app (map string_bytes words.now)) }
 {
     matches_for(alloc, "dis", &ARGUMENTS, words)
@@ -97,11 +97,11 @@ pub fn listing(alloc: Global, words: &[String]) -> Result<Listing, Refusal>
     let matches = dis_matches(alloc, words)?;
     let way = way_from(
         alloc,
-        is_true(text_of(&matches, "flow")),
-        text_of(&matches, "vecbase"),
-        text_of(&matches, "entry1"),
-        text_of(&matches, "roots"),
+        matches.is_given("flow"),
+        matches.text("vecbase"),
+        matches.text("entry1"),
+        matches.text("roots"),
     )?;
-    let as_text = is_true(text_of(&matches, "data"));
+    let as_text = matches.is_given("data");
     Ok(Listing { way, as_text })
 }

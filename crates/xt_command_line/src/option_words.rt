@@ -2,19 +2,21 @@
 ghost use Rattle.std.specs.Prelude.{◌≡◌, IfOk, map, string_bytes, option_map};
 ghost use Rattle.xt_command_line.specs.MeaningAnswers.{Means};
 ghost use Rattle.xt_command_line.specs.Numbers.{number_of};
-ghost use Rattle.xt_command_line.specs.Options.{AreValid, are_secrets_required, stack_between, given_number_of, options_or_refusal, options_in, options_with, range_of, record_app, record_options_of, run_app, run_options_of, said_or, judged_texts};
+ghost use Rattle.xt_command_line.specs.Options.{AreValid, are_secrets_required, stack_between, given_number_of, options_or_refusal, options_in, options_with, range_of, record_app, record_options_of, run_app, run_options_of, said_or, judged_texts, judged_with, texts_of};
+ghost use Rattle.xt_command_line.specs.Requirements.{required_in};
 ghost use Rattle.xt_command_line.specs.Simple.{Matches, rows_by};
-ghost use Rattle.xt_command_line.specs.Views.{texts_in};
+ghost use Rattle.xt_command_line.specs.Spans.{shown_in};
+ghost use Rattle.xt_command_line.specs.TurnOrders.{order_in};
 
 use crate::command::Refusal;
 use crate::numbers::number;
-use crate::option_commands::{Form, OptionTexts, matches_for, texts_from};
+use crate::option_commands::matches_for;
 use crate::options::{RunOptions, within_limits};
 use crate::requirements::{Requirement, Requirements, is_among, required_in};
 use crate::secrets::{SecretOptions, secrets_in};
+use crate::simple::{Form, Matched};
 use crate::spans::{Spans, shown_in};
 use crate::turn_orders::{TurnOrder, order_in};
-use clap::ArgMatches;
 use std::alloc::Global;
 use xt_trace::Stack;
 
@@ -120,20 +122,20 @@ fn range_or(text: Option<&str>, default: Stack) -> Option<Stack>
 // The options that the texts say, with this order, these requirements and these words of memory, or none where a text is
 // no number or no range.
 fn options_from(
-    texts: OptionTexts<'_>,
+    matches: &Matched<'_>,
     order: TurnOrder,
     required: Option<Requirements>,
     memory: Option<Spans>,
 ) -> Option<RunOptions>
-    ensures { result ≡ options_in (texts_in texts.entry) order required memory }
+    ensures { result ≡ options_in (texts_of matches.now) order required memory }
 {
     match (
-        number_or(texts.turns0, 100_000),
-        number_or(texts.turns1, 100_000),
-        given_number(texts.entry1),
-        number_or(texts.vecbase, DEFAULT_VECBASE),
-        range_or(texts.stack0, BELOW),
-        range_or(texts.stack1, ABOVE),
+        number_or(matches.text("turns0"), 100_000),
+        number_or(matches.text("turns1"), 100_000),
+        given_number(matches.text("entry1")),
+        number_or(matches.text("vecbase"), DEFAULT_VECBASE),
+        range_or(matches.text("stack0"), BELOW),
+        range_or(matches.text("stack1"), ABOVE),
     ) {
         (Some(turns0), Some(turns1), Some(entry1), Some(vecbase), Some(stack0), Some(stack1)) => {
             Some(RunOptions {
@@ -144,11 +146,11 @@ fn options_from(
                 stack0,
                 stack1,
                 order,
-                trace: texts.trace,
-                events: texts.events,
-                race: texts.race,
-                profile: texts.profile,
-                uses: texts.uses,
+                trace: matches.is_given("trace"),
+                events: matches.is_given("events"),
+                race: matches.is_given("race"),
+                profile: matches.is_given("profile"),
+                uses: matches.is_given("uses"),
                 required,
                 memory,
                 secrets: None,
@@ -177,34 +179,53 @@ fn options_with(options: RunOptions, secrets: Option<SecretOptions>) -> Result<R
     if secrets.is_none() && are_secrets_required(&options.required) {
         return Err(Refusal::Usage(10));
     }
-    Ok(RunOptions { secrets, ..options })
+    let mut options = options;
+    options.secrets = secrets;
+    Ok(options)
+}
+
+// Options that keep the rules of usage 5 to 8, or the first rule that is broken.
+fn options_or_refusal(options: Option<RunOptions>) -> Result<RunOptions, Refusal>
+    ensures means { result ≡ options_or_refusal options }
+    ensures valid { IfOk result AreValid }
+{
+    match options {
+        Some(options) => within_limits(options),
+        None => Err(Refusal::Usage(4)),
+    }
+}
+
+// The options that the texts say but for what is secret, or the first rule of usage that they break.
+fn options_without_secrets(alloc: Global, matches: &Matched<'_>) -> Result<RunOptions, Refusal>
+    ensures means { let t = texts_of matches.now in
+        Means result (judged_with t (order_in t.seed t.order) (required_in t.require) (shown_in t.memory)) }
+    ensures valid { IfOk result AreValid }
+{
+    let order = order_in(alloc, matches.text("seed"), matches.text("order"))?;
+    let required = required_in(alloc, matches.text("require"))?;
+    let memory = shown_in(alloc, matches.text("memory"))?;
+    options_or_refusal(options_from(matches, order, required, memory))
 }
 
 /// The options that the texts say, or the first rule of usage that they break.
-pub fn judged_texts(alloc: Global, texts: OptionTexts<'_>) -> Result<RunOptions, Refusal>
-    ensures means { Means result (judged_texts (texts_in texts.entry)) }
+pub fn judged_texts(alloc: Global, matches: &Matched<'_>) -> Result<RunOptions, Refusal>
+    ensures means { Means result (judged_texts (texts_of matches.now)) }
     ensures valid { IfOk result AreValid }
 {
-    let order = order_in(alloc, texts.seed, texts.order)?;
-    let required = required_in(alloc, texts.require)?;
-    let memory = shown_in(alloc, texts.memory)?;
-    let Some(options) = options_from(texts, order, required, memory) else {
-        return Err(Refusal::Usage(4));
-    };
-    let options = within_limits(options)?;
-    let secrets = secrets_in(alloc, texts.secret, texts.public)?;
+    let options = options_without_secrets(alloc, matches)?;
+    let secrets = secrets_in(alloc, matches.text("secret"), matches.text("public"))?;
     options_with(options, secrets)
 }
 
 // What `clap` matches on the words of `run`.
-fn run_matches<'a>(alloc: Global, words: &'a [String]) -> Result<ArgMatches<'a>, Refusal>
+fn run_matches<'a>(alloc: Global, words: &'a [String]) -> Result<Matched<'a>, Refusal>
     ensures { Matches result (rows_by run_app (map string_bytes words.now)) }
 {
     matches_for(alloc, "run", &RUN, words)
 }
 
 // What `clap` matches on the words of `record`.
-fn record_matches<'a>(alloc: Global, words: &'a [String]) -> Result<ArgMatches<'a>, Refusal>
+fn record_matches<'a>(alloc: Global, words: &'a [String]) -> Result<Matched<'a>, Refusal>
     ensures { Matches result (rows_by record_app (map string_bytes words.now)) }
 {
     matches_for(alloc, "record", &RECORD, words)
@@ -226,7 +247,7 @@ pub fn run_options(alloc: Global, words: &[String]) -> Result<RunOptions, Refusa
     ensures valid { IfOk result AreValid }
 {
     let matches = run_matches(alloc, words)?;
-    judged_texts(alloc, texts_from(&matches))
+    judged_texts(alloc, &matches)
 }
 
 /// The same of `record`, which has neither `--memory`, `--secret` and `--public` nor the five flags.
@@ -235,5 +256,5 @@ pub fn record_options(alloc: Global, words: &[String]) -> Result<RunOptions, Ref
     ensures valid { IfOk result AreValid }
 {
     let matches = record_matches(alloc, words)?;
-    judged_texts(alloc, texts_from(&matches))
+    judged_texts(alloc, &matches)
 }

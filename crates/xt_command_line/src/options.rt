@@ -14,7 +14,6 @@ use xt_trace::{Options, Stack};
 pub const MOST_TURNS: u32 = 4_000_000;
 
 /// The options of `run` and `record`.
-#[derive(Drop)]
 pub struct RunOptions {
     /// The turns of core 0 (`--turns0`).
     pub turns0: u32,
@@ -46,6 +45,29 @@ pub struct RunOptions {
     pub memory: Option<Spans>,
     /// What is secret (`--secret` and `--public`, of `run` alone), if anything is.
     pub secrets: Option<SecretOptions>,
+}
+
+// A `drop` of its own is one call at each place where options are dropped.
+impl Drop for RunOptions {
+    fn drop(self) {
+        let RunOptions {
+            turns0: _,
+            turns1: _,
+            entry1: _,
+            vecbase: _,
+            stack0: _,
+            stack1: _,
+            order: _,
+            trace: _,
+            events: _,
+            race: _,
+            profile: _,
+            uses: _,
+            required: _,
+            memory: _,
+            secrets: _,
+        } = self;
+    }
 }
 
 impl RunOptions {

@@ -1,21 +1,19 @@
 //! The words of `outcomes`.
-ghost use Rattle.std.specs.Prelude.{◌≡◌, ◌+◌, ◌≤◌, ◌^◌, All, true, IfOk, IfSome, length, map, string_bytes, option_map};
+ghost use Rattle.std.specs.Prelude.{◌≡◌, ◌+◌, ◌≤◌, ◌^◌, All, true, IfOk, IfSome, codes, length, map, string_bytes, option_map};
 ghost use Rattle.xt_command_line.specs.MeaningAnswers.{Means};
-ghost use Rattle.xt_command_line.specs.Options.{judged_texts, said_or};
+ghost use Rattle.clap.specs.Words.{first_of};
+ghost use Rattle.xt_command_line.specs.Options.{judged_texts, said_or, texts_of};
 ghost use Rattle.xt_command_line.specs.Simple.{Matches, rows_by};
-ghost use Rattle.xt_command_line.specs.Views.{texts_in};
 ghost use Rattle.xt_command_line.specs.Outcomes.{AreOutcomeOptions, is_place, may_count, outcomes_app, outcomes_of, outcomes_with, place_of, places_of, states_of, word_texts};
 
 use crate::command::Refusal;
 use crate::numbers::number;
-use crate::option_commands::{
-    Form, OptionTexts, is_true, matches_for, text_of, texts_from, texts_under,
-};
+use crate::option_commands::matches_for;
 use crate::option_words::judged_texts;
 use crate::options::RunOptions;
-use clap::ArgMatches;
+use crate::roots::Addresses;
+use crate::simple::{Form, Matched};
 use std::alloc::{AllocError, Global};
-use std::marker::Model;
 use xt_map::is_in_memory;
 
 // The arguments of `outcomes`.
@@ -40,36 +38,6 @@ const MOST_STATES: u32 = 16_000_000;
 /// The most words that an outcome can have.
 const MOST_WORDS: usize = 4;
 
-/// Addresses of words. Contracts see the list.
-#[derive(Drop)]
-pub struct WordList {
-    items: Vec<u32>,
-}
-
-impl Model for WordList {
-    ghost use Rattle.std.specs.Prelude.{ℕ, List};
-
-    ghost Value = { List ℕ };
-
-    ghost view = { λ s. s.items.items };
-}
-
-impl WordList {
-    /// These addresses, without a copy.
-    pub fn new(items: Vec<u32>) -> WordList
-        ensures { result ≡ items.items }
-    {
-        WordList { items }
-    }
-
-    /// The addresses.
-    pub fn as_slice(&self) -> &[u32]
-        ensures { result.now ≡ self.now }
-    {
-        &self.items
-    }
-}
-
 /// What `outcomes` looks at.
 #[derive(Drop)]
 pub struct OutcomeOptions {
@@ -78,7 +46,7 @@ pub struct OutcomeOptions {
     /// Whether each core has the turns that the options give it (`--timed`).
     pub timed: bool,
     /// The addresses of the words that belong to an outcome (`--word`).
-    pub words: WordList,
+    pub words: Addresses,
     /// How many worlds are kept at most (`--states`).
     pub states: u32,
 }
@@ -104,7 +72,7 @@ fn place_of(text: &str) -> Option<u32>
 }
 
 // The addresses of these texts, each of which has to say one.
-fn places_of(alloc: Global, texts: &[&str]) -> Result<Option<WordList>, AllocError>
+fn places_of(alloc: Global, texts: &[&str]) -> Result<Option<Addresses>, AllocError>
     ensures places { IfOk result (λ list. list ≡ places_of (map (λ text. text.now) texts.now)) }
     ensures low { IfOk result (λ list. IfSome list (λ words. All (λ a. a + 4 ≤ 2 ^ 32) words)) }
 {
@@ -115,7 +83,7 @@ fn places_of(alloc: Global, texts: &[&str]) -> Result<Option<WordList>, AllocErr
             None => return Ok(None),
         }
     }
-    Ok(Some(WordList::new(words)))
+    Ok(Some(Addresses::new(words)))
 }
 
 // How many worlds a text says, or the default where there is none.
@@ -132,10 +100,10 @@ fn states_or(text: Option<&str>, default: u32) -> Option<u32>
 }
 
 // Whether a number of turns is given only where `--timed` is.
-fn may_count(timed: bool, texts: OptionTexts<'_>) -> bool
-    ensures { result ≡ may_count timed (texts_in texts.entry) }
+fn may_count(timed: bool, matches: &Matched<'_>) -> bool
+    ensures { result ≡ may_count timed (texts_of matches.now) }
 {
-    timed || (texts.turns0.is_none() && texts.turns1.is_none())
+    timed || (matches.text("turns0").is_none() && matches.text("turns1").is_none())
 }
 
 // The options that the texts of `--word` and `--states` and those of a run say, or the first rule of usage that they
@@ -144,16 +112,15 @@ fn options_with(
     alloc: Global,
     timed: bool,
     words: &[&str],
-    states: Option<&str>,
-    run: OptionTexts<'_>,
+    matches: &Matched<'_>,
 ) -> Result<OutcomeOptions, Refusal>
-    ensures means { Means result (outcomes_with timed (places_of (map (λ text. text.now) words.now)) (said_or states_of 1000000 (option_map (λ t. t.now) states.entry)) (judged_texts (texts_in run.entry))) }
+    ensures means { Means result (outcomes_with timed (places_of (map (λ text. text.now) words.now)) (said_or states_of 1000000 (first_of (codes "states") matches.now)) (judged_texts (texts_of matches.now))) }
     ensures valid { IfOk result AreOutcomeOptions }
 {
     let places = places_of(alloc, words)?;
-    match (places, states_or(states, DEFAULT_STATES)) {
+    match (places, states_or(matches.text("states"), DEFAULT_STATES)) {
         (Some(words), Some(states)) => {
-            let run = judged_texts(alloc, run)?;
+            let run = judged_texts(alloc, matches)?;
             Ok(OutcomeOptions {
                 run,
                 timed,
@@ -166,7 +133,7 @@ fn options_with(
 }
 
 // What `clap` matches on the words of `outcomes`.
-fn outcomes_matches<'a>(alloc: Global, words: &'a [String]) -> Result<ArgMatches<'a>, Refusal>
+fn outcomes_matches<'a>(alloc: Global, words: &'a [String]) -> Result<Matched<'a>, Refusal>
     ensures { Matches result (rows_by outcomes_app (map string_bytes words.now)) }
 {
     matches_for(alloc, "outcomes", &ARGUMENTS, words)
@@ -185,12 +152,10 @@ pub fn outcomes_options(alloc: Global, words: &[String]) -> Result<OutcomeOption
     ensures valid { IfOk result AreOutcomeOptions }
 {
     let matches = outcomes_matches(alloc, words)?;
-    let places = texts_under(&matches, "word").unwrap_or(&[]);
-    let timed = is_true(text_of(&matches, "timed"));
-    let texts = texts_from(&matches);
-    if !may_count(timed, texts) || places.len() > MOST_WORDS {
+    let places = matches.texts("word").unwrap_or(&[]);
+    let timed = matches.is_given("timed");
+    if !may_count(timed, &matches) || places.len() > MOST_WORDS {
         return Err(Refusal::Usage(3));
     }
-    let states = text_of(&matches, "states");
-    options_with(alloc, timed, places, states, texts)
+    options_with(alloc, timed, places, &matches)
 }

@@ -6,8 +6,9 @@ ghost use Rattle.xt_command_line.specs.Turns.{chosen_turns, core_of, turns_of};
 
 use crate::command::{Refusal, Turns};
 use crate::numbers::number;
-use crate::option_commands::{Form, is_true, matches_for, text_of};
+use crate::option_commands::matches_for;
 use crate::option_words::number_or;
+use crate::simple::Form;
 use std::alloc::Global;
 
 // The arguments of `trace`.
@@ -69,11 +70,11 @@ pub fn trace_turns(alloc: Global, words: &[String]) -> Result<Turns, Refusal>
 {
     let matches = matches_for(alloc, "trace", &ARGUMENTS, words)?;
     choose(
-        number_or(text_of(&matches, "from"), 0),
-        number_or(text_of(&matches, "to"), u32::MAX),
-        given_core(text_of(&matches, "core")),
-        is_true(text_of(&matches, "accesses")),
-        is_true(text_of(&matches, "jumps")),
-        is_true(text_of(&matches, "frames")),
+        number_or(matches.text("from"), 0),
+        number_or(matches.text("to"), u32::MAX),
+        given_core(matches.text("core")),
+        matches.is_given("accesses"),
+        matches.is_given("jumps"),
+        matches.is_given("frames"),
     )
 }

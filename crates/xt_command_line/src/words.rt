@@ -1,15 +1,17 @@
-ghost use Rattle.std.specs.Prelude.{◌≡◌, Err, IfOk, Some, map, string_bytes};
+ghost use Rattle.std.specs.Prelude.{◌≡◌, Err, IfOk, Some, map, string_bytes, true};
+ghost use Rattle.clap.specs.Words.{is_simple_and_free, new_app};
 ghost use Rattle.xt_command_line.specs.MeaningAnswers.{Means};
-ghost use Rattle.xt_command_line.specs.Meaning.{HasValidOptions, MayWantMemory, TakesMemory, check_meaning_of, dis_meaning_of, gen_meaning_of, meaning_by, meaning_of, command_named, name_in, outcomes_meaning_of, profile_meaning_of, record_meaning_of, run_meaning_of, secrets_meaning_of, trace_meaning_of, uses_meaning_of};
+ghost use Rattle.xt_command_line.specs.Meaning.{HasValidOptions, MayWantMemory, TakesMemory, check_meaning_of, dis_meaning_of, gen_meaning_of, meaning_by, meaning_of, command_named, name_in, outcomes_meaning_of, profile_meaning_of, record_meaning_of, run_meaning_of, secrets_meaning_of, trace_meaning_of, uses_meaning_of, without_options};
+ghost use Rattle.xt_command_line.specs.Simple.{rows_by};
 ghost use Rattle.xt_command_line.specs.declared.command.Refusal.TheVariants.{Memory};
 
 use crate::arguments::{check_vecbase, generator_number, secret_options, uses_rigor};
 use crate::command::{Command, Name, Refusal};
 use crate::depths::profile_options;
 use crate::listings::listing;
+use crate::option_commands::matches_for;
 use crate::option_words::{record_options, run_options};
 use crate::outcomes::outcomes_options;
-use crate::simple::without_options_meaning;
 use crate::turns::trace_turns;
 use std::alloc::Global;
 
@@ -54,114 +56,19 @@ fn name_of(word: &str) -> Option<Name>
     name_in(&NAMES, word)
 }
 
-// The command `run` with the options that its words say.
-fn run_meaning(alloc: Global, words: &[String]) -> Result<Command, Refusal>
-    ensures means { Means result (run_meaning_of (map string_bytes words.now)) }
-    ensures valid { IfOk result HasValidOptions }
+// The answer, where the words are the command's name and no option.
+fn without_options<'a, T: Drop>(
+    alloc: Global,
+    name: &'a str,
+    answer: T,
+    words: &'a [String],
+) -> Result<T, Refusal>
+    requires { is_simple_and_free (new_app name.now) ≡ true }
+    ensures means { Means result (without_options answer (rows_by (new_app name.now) (map string_bytes words.now))) }
+    ensures same { IfOk result (λ a. a ≡ answer) }
 {
-    match run_options(alloc, words) {
-        Ok(options) => Ok(Command::Run(options)),
-        Err(refusal) => Err(refusal),
-    }
-}
-
-// The command `record` with the options that its words say.
-fn record_meaning(alloc: Global, words: &[String]) -> Result<Command, Refusal>
-    ensures means { Means result (record_meaning_of (map string_bytes words.now)) }
-    ensures valid { IfOk result HasValidOptions }
-{
-    match record_options(alloc, words) {
-        Ok(options) => Ok(Command::Record(options)),
-        Err(refusal) => Err(refusal),
-    }
-}
-
-// The command `dis` with the listing that its words say.
-fn dis_meaning(alloc: Global, words: &[String]) -> Result<Command, Refusal>
-    ensures means { Means result (dis_meaning_of (map string_bytes words.now)) }
-    ensures valid { IfOk result HasValidOptions }
-{
-    match listing(alloc, words) {
-        Ok(listing) => Ok(Command::Disassemble(listing)),
-        Err(refusal) => Err(refusal),
-    }
-}
-
-// The command `check` with the VECBASE that its words say.
-fn check_meaning(alloc: Global, words: &[String]) -> Result<Command, Refusal>
-    ensures means { Means result (check_meaning_of (map string_bytes words.now)) }
-    ensures valid { IfOk result HasValidOptions }
-{
-    match check_vecbase(alloc, words) {
-        Ok(vecbase) => Ok(Command::Check(vecbase)),
-        Err(refusal) => Err(refusal),
-    }
-}
-
-// The command `trace` with the turns that its words say.
-fn trace_meaning(alloc: Global, words: &[String]) -> Result<Command, Refusal>
-    ensures means { Means result (trace_meaning_of (map string_bytes words.now)) }
-    ensures valid { IfOk result HasValidOptions }
-{
-    match trace_turns(alloc, words) {
-        Ok(turns) => Ok(Command::Trace(turns)),
-        Err(refusal) => Err(refusal),
-    }
-}
-
-// The command `uses` with the rigor that its words say.
-fn uses_meaning(alloc: Global, words: &[String]) -> Result<Command, Refusal>
-    ensures means { Means result (uses_meaning_of (map string_bytes words.now)) }
-    ensures valid { IfOk result HasValidOptions }
-{
-    match uses_rigor(alloc, words) {
-        Ok(rigor) => Ok(Command::Uses(rigor)),
-        Err(refusal) => Err(refusal),
-    }
-}
-
-// The command `secrets` with what its words say to be secret.
-fn secrets_meaning(alloc: Global, words: &[String]) -> Result<Command, Refusal>
-    ensures means { Means result (secrets_meaning_of (map string_bytes words.now)) }
-    ensures valid { IfOk result HasValidOptions }
-{
-    match secret_options(alloc, words) {
-        Ok(secrets) => Ok(Command::Secrets(secrets)),
-        Err(refusal) => Err(refusal),
-    }
-}
-
-// The command `profile` with the options that its words say.
-fn profile_meaning(alloc: Global, words: &[String]) -> Result<Command, Refusal>
-    ensures means { Means result (profile_meaning_of (map string_bytes words.now)) }
-    ensures valid { IfOk result HasValidOptions }
-{
-    match profile_options(alloc, words) {
-        Ok(options) => Ok(Command::Profile(options)),
-        Err(refusal) => Err(refusal),
-    }
-}
-
-// The command `outcomes` with the options that its words say.
-fn outcomes_meaning(alloc: Global, words: &[String]) -> Result<Command, Refusal>
-    ensures means { Means result (outcomes_meaning_of (map string_bytes words.now)) }
-    ensures valid { IfOk result HasValidOptions }
-{
-    match outcomes_options(alloc, words) {
-        Ok(options) => Ok(Command::Outcomes(options)),
-        Err(refusal) => Err(refusal),
-    }
-}
-
-// The command `gen` with the number that its words say.
-fn gen_meaning(alloc: Global, words: &[String]) -> Result<Command, Refusal>
-    ensures means { Means result (gen_meaning_of (map string_bytes words.now)) }
-    ensures valid { IfOk result HasValidOptions }
-{
-    match generator_number(alloc, words) {
-        Ok(number) => Ok(Command::Generate(number)),
-        Err(refusal) => Err(refusal),
-    }
+    matches_for(alloc, name, &[], words)?;
+    Ok(answer)
 }
 
 // What the words of this command mean, the first of which names it.
@@ -171,24 +78,24 @@ fn named_meaning(alloc: Global, name: Name, words: &[String]) -> Result<Command,
     ensures memory { result ≡ Err Memory → TakesMemory (Some name) }
 {
     match name {
-        Name::Run => run_meaning(alloc, words),
-        Name::Record => record_meaning(alloc, words),
-        Name::Assemble => { without_options_meaning(alloc, "asm", Command::Assemble, words) }
-        Name::Convert => without_options_meaning(alloc, "elf", Command::Convert, words),
-        Name::Disassemble => dis_meaning(alloc, words),
-        Name::Map => without_options_meaning(alloc, "map", Command::Map, words),
+        Name::Run => Ok(Command::Run(run_options(alloc, words)?)),
+        Name::Record => Ok(Command::Record(record_options(alloc, words)?)),
+        Name::Assemble => without_options(alloc, "asm", Command::Assemble, words),
+        Name::Convert => without_options(alloc, "elf", Command::Convert, words),
+        Name::Disassemble => Ok(Command::Disassemble(listing(alloc, words)?)),
+        Name::Map => without_options(alloc, "map", Command::Map, words),
         Name::Replay => Ok(Command::Replay),
-        Name::Migrate => { without_options_meaning(alloc, "migrate", Command::Migrate, words) }
-        Name::Events => { without_options_meaning(alloc, "events", Command::Events, words) }
-        Name::Counts => { without_options_meaning(alloc, "counts", Command::Counts, words) }
-        Name::Trace => trace_meaning(alloc, words),
-        Name::Race => without_options_meaning(alloc, "race", Command::Race, words),
-        Name::Profile => profile_meaning(alloc, words),
-        Name::Uses => uses_meaning(alloc, words),
-        Name::Secrets => secrets_meaning(alloc, words),
-        Name::Check => check_meaning(alloc, words),
-        Name::Outcomes => outcomes_meaning(alloc, words),
-        Name::Generate => gen_meaning(alloc, words),
+        Name::Migrate => without_options(alloc, "migrate", Command::Migrate, words),
+        Name::Events => without_options(alloc, "events", Command::Events, words),
+        Name::Counts => without_options(alloc, "counts", Command::Counts, words),
+        Name::Trace => Ok(Command::Trace(trace_turns(alloc, words)?)),
+        Name::Race => without_options(alloc, "race", Command::Race, words),
+        Name::Profile => Ok(Command::Profile(profile_options(alloc, words)?)),
+        Name::Uses => Ok(Command::Uses(uses_rigor(alloc, words)?)),
+        Name::Secrets => Ok(Command::Secrets(secret_options(alloc, words)?)),
+        Name::Check => Ok(Command::Check(check_vecbase(alloc, words)?)),
+        Name::Outcomes => Ok(Command::Outcomes(outcomes_options(alloc, words)?)),
+        Name::Generate => Ok(Command::Generate(generator_number(alloc, words)?)),
     }
 }
 

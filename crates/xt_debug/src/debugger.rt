@@ -11,7 +11,6 @@ use xt_trace::Run;
 
 /// A run of an image at a position, as scripts walk it. It keeps what was last worked out of the frames of both cores, so
 /// that a later question goes on from there. Contracts see the image, the run and the position.
-#[derive(Drop)]
 pub struct Debugger<'a> {
     replay: Replay<'a>,
     kept: Option<FrameWalk<'a>>,
@@ -27,6 +26,13 @@ impl<'a> Model for Debugger<'a> {
     ghost view = { λ d. d.replay };
 
     ghost invariant = { λ d. IsOf d.kept d.replay.image d.replay.run };
+}
+
+// A `drop` of its own is one call at each place where a debugger is dropped.
+impl Drop for Debugger<'_> {
+    fn drop(self) {
+        let Debugger { replay: _, kept: _ } = self;
+    }
 }
 
 impl<'a> Debugger<'a> {

@@ -1,4 +1,8 @@
 //! The lines of turns, each with what is known of its core's frames after it.
+ghost use Rattle.std.specs.Prelude.{◌≡◌, IfOk, ℕ, Option};
+ghost use Rattle.xt_debug.specs.FrameNotes.{note_at, with_note};
+ghost use Rattle.xt_debug.specs.FrameWalks.{Advances};
+
 use crate::frame_notes::with_note;
 use crate::frame_walk::FrameWalk;
 use std::alloc::{AllocError, Global};
@@ -8,9 +12,17 @@ use xt_image::Image;
 use xt_map::Text;
 use xt_trace::Run;
 
+// A line with what is known of frames after the next turn of a walk, which goes over that turn.
+fn noted_line(alloc: Global, line: Text, walk: &mut FrameWalk<'_>) -> Result<Text, AllocError>
+    ensures text { IfOk result (λ text. text ≡ with_note line (note_at walk.old.image walk.old.run walk.old.position)) }
+    ensures moved { (core : Option ℕ) × Advances core walk.old walk.new }
+{
+    let note = walk.note(alloc)?;
+    with_note(alloc, line, &note)
+}
+
 /// The lines of the turns of a run, each with what is known of its core's frames after it, which are given
 /// one by one. Contracts see the lines that are left.
-#[derive(Drop)]
 pub struct FrameLines<'a> {
     lines: TurnLines<'a>,
     walk: FrameWalk<'a>,
@@ -24,6 +36,13 @@ impl<'a> Model for FrameLines<'a> {
     ghost Value = { List (List ℕ) };
 
     ghost view = { λ t. noted t.walk.image t.walk.run t.walk.position (lines_in t.lines) };
+}
+
+// A `drop` of its own is one call at each place where lines are dropped.
+impl Drop for FrameLines<'_> {
+    fn drop(self) {
+        let FrameLines { lines: _, walk: _ } = self;
+    }
 }
 
 impl<'a> FrameLines<'a> {
@@ -78,8 +97,7 @@ impl<'a> FrameLines<'a> {
         match self.lines.next(alloc)? {
             None => Ok(None),
             Some(line) => {
-                let note = self.walk.note(alloc)?;
-                let text = with_note(alloc, line, &note)?;
+                let text = noted_line(alloc, line, &mut self.walk)?;
                 Ok(Some(text))
             }
         }

@@ -2,6 +2,10 @@
 ghost use Rattle.std.specs.Prelude.{◌≡◌, ◌+◌, ◌<◌, ◌++◌, OnOk, IfOk, ℕ, Option, slice_get, string_bytes};
 ghost use Rattle.xt_trace.specs.declared.run.Run.{Run};
 ghost use Rattle.xt_image.specs.declared.image.Image.{Image};
+ghost use Rattle.xt_trace.specs.Validity.{IsValid};
+ghost use Rattle.xt_map.specs.Placing.{IsPlaced};
+ghost use Rattle.xt_core.specs.Runs.{IsRunOf, records_of};
+ghost use Rattle.xt_discipline.specs.Walks.{IsOpened};
 ghost use Rattle.xt_debug.specs.FrameWalks.{IsTurnOf, StandsAt, course_of, is_lost, opening_course};
 
 use crate::calls::{push_known, push_unknown};
@@ -13,7 +17,7 @@ use xt_discipline::{Schedule, Walk, are_yes, handlers_of, schedule_of};
 use xt_frames::Judged;
 use xt_image::Image;
 use xt_map::Constants;
-use xt_trace::{Records, Run};
+use xt_trace::{Options, Records, Run};
 
 /// How the walk of the judge goes on.
 #[derive(Clone, Copy)]
@@ -126,9 +130,33 @@ fn step<R: Records>(
     }
 }
 
+// The records of both cores. The only error is running out of memory.
+fn both_records<'a>(
+    alloc: Global,
+    image: &'a Image,
+    run: &'a Run,
+) -> Result<(Cursor<'a>, Cursor<'a>), AllocError>
+    requires run { IsRunOf image.now run.now }
+    requires placed { IsPlaced image.now.segments }
+    ensures zero { IfOk result (λ both. both.0 ≡ (records_of 0 image.now run.now).records) }
+    ensures one { IfOk result (λ both. both.1 ≡ (records_of 1 image.now run.now).records) }
+{
+    let records0 = Cursor::make(alloc, image, run, 0)?;
+    let records1 = Cursor::make(alloc, image, run, 1)?;
+    Ok((records0, records1))
+}
+
+// The walk of the judge as both cores open. The only error is running out of memory.
+fn opened<'a>(alloc: Global, image: &'a Image, options: &Options) -> Result<Walk<'a>, AllocError>
+    requires placed { IsPlaced image.now.segments }
+    requires valid { IsValid options.now }
+    ensures { IfOk result (λ walk. IsOpened walk image.now.segments image.now.entry options.now) }
+{
+    let code = Constants::make(alloc, image.segments.as_slice())?;
+    Walk::open(alloc, code, image.entry, options)
+}
+
 impl<'a> FrameWalk<'a> {
-    ghost use Rattle.xt_map.specs.Placing.{IsPlaced};
-    ghost use Rattle.xt_core.specs.Runs.{IsRunOf};
     ghost use Rattle.xt_debug.specs.Calls.{calls_text, stack_end};
     ghost use Rattle.xt_debug.specs.Depths.{depth_at, frame_at};
     ghost use Rattle.xt_debug.specs.FrameNotes.{note_at, note_text};
@@ -145,16 +173,14 @@ impl<'a> FrameWalk<'a> {
     {
         let handlers = handlers_of(alloc, image, run.options.vecbase)?;
         let schedule = schedule_of(alloc, run)?;
-        let records0 = Cursor::make(alloc, image, run, 0)?;
-        let records1 = Cursor::make(alloc, image, run, 1)?;
-        let code = Constants::make(alloc, image.segments.as_slice())?;
-        let walk = Walk::open(alloc, code, image.entry, &run.options)?;
+        let records = both_records(alloc, image, run)?;
+        let walk = opened(alloc, image, &run.options)?;
         Ok(FrameWalk {
             image,
             run,
             schedule,
-            records0,
-            records1,
+            records0: records.0,
+            records1: records.1,
             walk,
             course: opening_course(are_yes(&handlers)),
             position: 0,

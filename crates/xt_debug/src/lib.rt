@@ -22,4 +22,4 @@ pub use frame_lines::FrameLines;
 pub use parsing::parse_script;
 pub use running::Printed;
 pub use script::{Command, Script, ScriptFault};
-pub use targets::{Addresses, Breakpoint, Target};
+pub use targets::{Breakpoint, Target};

@@ -1,14 +1,14 @@
 //! Which script a text is.
 ghost use Rattle.std.specs.Prelude.{◌≡◌, ◌<◌, ◌≤◌, ◌==◌, All, IfOk, IfSome, map};
 ghost use Rattle.std.specs.List.{list_all, slice_split};
-ghost use Rattle.xt_command_line.specs.Roots.{all_numbers, roots_of};
+ghost use Rattle.xt_command_line.specs.Roots.{roots_of};
 ghost use Rattle.xt_debug.specs.Grammar.{breakpoint_of, command_of_none, command_of_numbers, command_of_one, command_of_two, command_of_words, commands_of, core_of, count_of, script_of, words_of, IsInRange};
 ghost use Rattle.xt_debug.specs.ScriptAnswers.{Reads};
 
 use crate::script::{Command, Script, ScriptFault};
-use crate::targets::{Addresses, Breakpoint, Target};
+use crate::targets::{Breakpoint, Target};
 use std::alloc::{AllocError, Global};
-use xt_command_line::number;
+use xt_command_line::{addresses_in, number};
 
 // The core that a word names.
 #[tactic(auto, unfolding(crate::specs::Grammar::core_of))]
@@ -76,35 +76,6 @@ fn command_with_numbers(name: &str, first: &str, second: &str) -> Option<Command
         "words" => Some(Command::Words(number(first)?, count_in(second)?)),
         _ => None,
     }
-}
-
-// The texts between commas.
-fn listed_in<'a>(alloc: Global, text: &'a str) -> Result<Vec<&'a str>, AllocError>
-    ensures { IfOk result (λ parts. map (λ part. part.now) parts.items ≡ slice_split (λ byte. byte == 44) text.now) }
-{
-    text.split(',').collect(alloc)
-}
-
-// The numbers of these texts, each of which has to say one.
-fn all_numbers(alloc: Global, parts: &[&str]) -> Result<Option<Addresses>, AllocError>
-    ensures { IfOk result (λ list. list ≡ all_numbers (map (λ part. part.now) parts.now)) }
-{
-    let mut numbers = Vec::new(alloc);
-    for part in parts {
-        match number(part) {
-            Some(number) => numbers.push(number)?,
-            None => return Ok(None),
-        }
-    }
-    Ok(Some(Addresses::new(numbers)))
-}
-
-// The addresses that a word lists, with commas between them.
-fn addresses_in(alloc: Global, word: &str) -> Result<Option<Addresses>, AllocError>
-    ensures { IfOk result (λ list. list ≡ roots_of word.now) }
-{
-    let parts = listed_in(alloc, word)?;
-    all_numbers(alloc, &parts)
 }
 
 // The core and the addresses that two words name.

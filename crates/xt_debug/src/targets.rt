@@ -1,37 +1,5 @@
 //! What commands look for.
-use std::marker::Model;
-
-/// Addresses. Contracts see the list.
-#[derive(Drop)]
-pub struct Addresses {
-    items: Vec<u32>,
-}
-
-impl Model for Addresses {
-    ghost use Rattle.std.specs.Prelude.{ℕ, List};
-
-    ghost Value = { List ℕ };
-
-    ghost view = { λ s. s.items.items };
-}
-
-impl Addresses {
-    ghost use Rattle.std.specs.Prelude.{◌≡◌};
-
-    /// These addresses, without a copy.
-    pub fn new(items: Vec<u32>) -> Addresses
-        ensures { result ≡ items.items }
-    {
-        Addresses { items }
-    }
-
-    /// The addresses.
-    pub fn as_slice(&self) -> &[u32]
-        ensures { result.now ≡ self.now }
-    {
-        &self.items
-    }
-}
+use xt_command_line::Addresses;
 
 /// A core, 0 or 1, and addresses of instructions.
 #[derive(Drop)]

@@ -18,8 +18,8 @@ returns-in_ok-text-in-Some c =
     let rest = lines_in c.next.new.self in
     let given = given_line _ _ line t.lines c.next.new.self c.in_ok-next.was c.in-Some.is c.next.ensures in
     let note = note_at s.image s.run s.position in
-    let text : c.in_ok-text-in-Some.text ≡ with_note line note = c.in_ok-text-in-Some.ensures ∙ ap (with_note line) (c.deref.ensures ∙ c.in_ok-note-in-Some.ensures.note) in
-    let (core, moved) = c.note.ensures.moved in
+    let text : c.in_ok-text-in-Some.text ≡ with_note line note = c.in_ok-text-in-Some.ensures.text in
+    let (core, moved) = c.noted_line.ensures.moved in
     sym c.self.view_is
     ∙ (ap (noted s.image s.run s.position) given
-    ∙ ap₂ (λ (x : List ℕ) (xs : List (List ℕ)). x ∷ xs) (sym text) (noted_on s c.note.new.self core rest moved))
+    ∙ ap₂ (λ (x : List ℕ) (xs : List (List ℕ)). x ∷ xs) (sym text) (noted_on s c.noted_line.new.walk core rest moved))

@@ -1,4 +1,4 @@
-use Rattle.std.proofs.Common.{◌∙◌, arith}
+use Rattle.std.proofs.Common.{refl, arith}
 use Rattle.xt_core.proofs.Scheduled.{has_schedule}
 use Rattle.xt_debug.proofs.FrameWalking.{begins}
 use Rattle.xt_debug.proofs.frame_walk.FrameWalk.make.Goals as goal
@@ -11,6 +11,6 @@ invariant_of-result c = record {
   run_is = c.requires.run;
   schedule_is = c.in_ok-schedule.ensures.schedule;
   within = omega arith;
-  stands = begins c.in_ok-walk.walk c.args.image.now c.args.run.now c.in_ok-code.code c.in_ok-handlers.handlers c.are_yes.result c.opening_course.result c.in_ok-records0.records0 c.in_ok-records1.records1
-      c.opening_course.ensures c.are_yes.ensures c.in_ok-handlers.ensures c.in_ok-walk.ensures (c.in_ok-code.ensures ∙ c.as_slice.ensures) c.in_ok-records0.ensures c.in_ok-records1.ensures;
+  stands = begins c.in_ok-walk.walk c.args.image.now c.args.run.now c.args.image.now.segments c.in_ok-handlers.handlers c.are_yes.result c.opening_course.result c.in_ok-records.records.0 c.in_ok-records.records.1
+      c.opening_course.ensures c.are_yes.ensures c.in_ok-handlers.ensures c.in_ok-walk.ensures refl c.in_ok-records.ensures.zero c.in_ok-records.ensures.one;
 }
