@@ -29,14 +29,20 @@ pub fn word(bytes: &[u8], place: usize) -> u32
 fn xor_all(sum: u8, bytes: &[u8]) -> u8
     ensures { result ≡ fold bit_xor sum bytes.now }
 {
-    bytes.iter().fold(sum, |sum, byte| sum ^ byte)
+    let mut total = sum;
+    for byte in bytes {
+        total ^= *byte;
+    }
+    total
 }
 
 /// EF xor all bytes of the segments.
 pub fn checksum_of(segments: &[Segment]) -> u8
     ensures { result ≡ checksum segments.now }
 {
-    segments.iter().fold(0xEF, |sum, segment| {
-        xor_all(sum, segment.bytes.as_slice())
-    })
+    let mut sum: u8 = 0xEF;
+    for segment in segments {
+        sum = xor_all(sum, segment.bytes.as_slice());
+    }
+    sum
 }

@@ -38,23 +38,36 @@ pub fn head_fault(bytes: &[u8]) -> Option<ImageFault>
 fn first_uneven(segments: &[Segment]) -> Option<usize>
     ensures { result ≡ position is_uneven segments.now }
 {
-    segments
-        .iter()
-        .position(|segment| segment.bytes.len() % 4 != 0)
+    for (i, segment) in segments.iter().enumerate() {
+        if segment.bytes.len() % 4 != 0 {
+            return Some(i);
+        }
+    }
+    None
 }
 
 // The first segment that may not stand at its address.
 fn first_misplaced(segments: &[Segment]) -> Option<usize>
     ensures { result ≡ position is_misplaced segments.now }
 {
-    segments.iter().position(|segment| !is_placed(segment))
+    for (i, segment) in segments.iter().enumerate() {
+        if !is_placed(segment) {
+            return Some(i);
+        }
+    }
+    None
 }
 
 // The first of some segments that shares a byte with this one.
 fn first_sharing(before: &[Segment], segment: &Segment) -> Option<usize>
     ensures { result ≡ position (λ t. do_overlap t segment.now) before.now }
 {
-    before.iter().position(|other| share_bytes(other, segment))
+    for (i, other) in before.iter().enumerate() {
+        if share_bytes(other, segment) {
+            return Some(i);
+        }
+    }
+    None
 }
 
 // The first segment that shares a byte with one before it.

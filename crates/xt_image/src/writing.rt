@@ -17,8 +17,7 @@ fn put_segment(out: &mut Vec<u8>, segment: &Segment) -> Result<(), AllocError>
 {
     out.extend_from_slice(&segment.addr.to_le_bytes())?;
     out.extend_from_slice(&(segment.bytes.len() as u32).to_le_bytes())?;
-    out.extend_from_slice(segment.bytes.as_slice())?;
-    Ok(())
+    out.extend_from_slice(segment.bytes.as_slice())
 }
 
 #[tactic(auto, unfolding(crate::specs::ImageParts::head_bytes))]
@@ -29,14 +28,30 @@ fn put_head(out: &mut Vec<u8>, image: &Image) -> Result<(), AllocError>
 {
     let head = &image.head;
     let count = image.segments.as_slice().len() as u8;
-    out.extend_from_slice(&[0xE9, count, head.mode, head.size_freq])?;
-    out.extend_from_slice(&image.entry.to_le_bytes())?;
-    out.push(head.wp_pin)?;
+    let entry = image.entry.to_le_bytes();
+    let min_rev = head.min_rev.to_le_bytes();
+    let max_rev = head.max_rev.to_le_bytes();
+    out.extend_from_slice(&[
+        0xE9,
+        count,
+        head.mode,
+        head.size_freq,
+        entry[0],
+        entry[1],
+        entry[2],
+        entry[3],
+        head.wp_pin,
+    ])?;
     out.extend_from_slice(&head.drive)?;
-    out.extend_from_slice(&0u16.to_le_bytes())?;
-    out.push(head.min_rev_old)?;
-    out.extend_from_slice(&head.min_rev.to_le_bytes())?;
-    out.extend_from_slice(&head.max_rev.to_le_bytes())?;
+    out.extend_from_slice(&[
+        0,
+        0,
+        head.min_rev_old,
+        min_rev[0],
+        min_rev[1],
+        max_rev[0],
+        max_rev[1],
+    ])?;
     out.extend_from_slice(&head.reserved)?;
     out.push(if image.digest { 1 } else { 0 })?;
     Ok(())

@@ -1,5 +1,5 @@
 ghost use Rattle.std.specs.Prelude.{◌≡◌, ℕ, ◌+◌, ◌*◌, ◌^◌, ◌<◌, ◌≤◌, ◌||◌, ◌&&◌, not, length, OnOk, IfOk, All, [], ◌∷◌, take, slice_get, false, if◌then◌else◌};
-ghost use Rattle.std.specs.Option.{option_map_or};
+ghost use Rattle.std.specs.Option.{option_copied, option_map_or};
 ghost use Rattle.std.specs.List.{list_any};
 ghost use Rattle.std.specs.Str.{bytes_eq};
 ghost use Rattle.xt_lex.specs.declared.name.Name.{Name};
@@ -14,6 +14,7 @@ ghost use Rattle.xt_layout.specs.Sizes.{items};
 ghost use Rattle.xt_layout.specs.Spans.{meet};
 
 use crate::PoolWord;
+use crate::need::literal_name;
 use crate::region::is_in_place;
 use crate::size::{padding, size};
 use crate::spot::{Span, Spot, address};
@@ -53,37 +54,16 @@ fn has_name(names: &BTreeSet<&[u8]>, name: &Name) -> bool
     names.contains(name.as_slice())
 }
 
-/// A name of a line that an earlier line defines.
-fn again(names: &BTreeSet<&[u8]>, line: &Line, placed: &Placed) -> Option<AsmPlace>
-    ensures { result ≡ again (has_name names.now) line.now (placed.now ∷ []) }
+/// A name of a line, if it defines one, that an earlier line defines.
+fn again(names: &BTreeSet<&[u8]>, line: &Line, name: Option<&Placed>) -> Option<AsmPlace>
+    ensures { result ≡ again (has_name names.now) line.now (label_name (option_copied name.entry)) }
 {
-    if has_name(names, &placed.name) {
-        Some(AsmPlace {
+    match name {
+        Some(placed) if has_name(names, &placed.name) => Some(AsmPlace {
             line: line.number,
             column: placed.column,
             kind: 4,
-        })
-    } else {
-        None
-    }
-}
-
-/// A label that an earlier line defines.
-fn label_again(names: &BTreeSet<&[u8]>, line: &Line) -> Option<AsmPlace>
-    ensures { result ≡ again (has_name names.now) line.now (label_name line.now.label) }
-{
-    match &line.label {
-        Some(placed) => again(names, line, placed),
-        None => None,
-    }
-}
-
-/// The name of a `.literal` that an earlier line defines.
-fn literal_again(names: &BTreeSet<&[u8]>, line: &Line) -> Option<AsmPlace>
-    ensures { result ≡ again (has_name names.now) line.now (literal_name line.now.statement) }
-{
-    match &line.statement {
-        Statement::Literal(placed, _) => again(names, line, placed),
+        }),
         _ => None,
     }
 }
@@ -111,8 +91,11 @@ fn twice(names: &BTreeSet<&[u8]>, has_entry: bool, line: &Line) -> Option<AsmPla
     ensures { result ≡ twice (has_name names.now) has_entry line.now }
 {
     or_else(
-        label_again(names, line),
-        or_else(literal_again(names, line), entry_again(has_entry, line)),
+        again(names, line, line.label.as_ref()),
+        or_else(
+            again(names, line, literal_name(&line.statement)),
+            entry_again(has_entry, line),
+        ),
     )
 }
 
@@ -219,7 +202,12 @@ fn meet(one: Span, other: Span) -> bool
 fn meets_any(own: Span, others: &[Span]) -> bool
     ensures { result ≡ list_any (meet own) others.now }
 {
-    others.iter().any(|other| meet(own, *other))
+    for other in others {
+        if meet(own, *other) {
+            return true;
+        }
+    }
+    false
 }
 
 /// Whether the segment after n others shares an address with one of them.
@@ -294,23 +282,16 @@ fn note_name<'a>(names: &mut BTreeSet<&'a [u8]>, placed: &'a Placed) -> Result<(
     Ok(())
 }
 
-/// The label of a line.
-fn note_label<'a>(names: &mut BTreeSet<&'a [u8]>, line: &'a Line) -> Result<(), AllocError>
-    ensures { OnOk result ((q : Name) → has_name names.new q ≡ (has_name names.old q || list_any (λ (p : Placed). bytes_eq p.name q) (label_name line.now.label))) }
+/// A name more, if there is one.
+fn note_if_any<'a>(
+    names: &mut BTreeSet<&'a [u8]>,
+    name: Option<&'a Placed>,
+) -> Result<(), AllocError>
+    ensures { OnOk result ((q : Name) → has_name names.new q ≡ (has_name names.old q || list_any (λ (p : Placed). bytes_eq p.name q) (label_name (option_copied name.entry)))) }
 {
-    match &line.label {
+    match name {
         Some(placed) => note_name(names, placed),
         None => Ok(()),
-    }
-}
-
-/// The name of a `.literal`.
-fn note_literal<'a>(names: &mut BTreeSet<&'a [u8]>, line: &'a Line) -> Result<(), AllocError>
-    ensures { OnOk result ((q : Name) → has_name names.new q ≡ (has_name names.old q || list_any (λ (p : Placed). bytes_eq p.name q) (literal_name line.now.statement))) }
-{
-    match &line.statement {
-        Statement::Literal(placed, _) => note_name(names, placed),
-        _ => Ok(()),
     }
 }
 
@@ -322,8 +303,8 @@ fn note<'a>(before: &mut Before<'a>, line: &'a Line) -> Result<(), AllocError>
     ensures entry { OnOk result (before.new.has_entry ≡ (before.old.has_entry || is_entry line.now.statement)) }
     ensures segments { OnOk result (before.new.segments ≡ before.old.segments + (if is_segment line.now.statement then 1 else 0)) }
 {
-    note_label(&mut before.names, line)?;
-    note_literal(&mut before.names, line)?;
+    note_if_any(&mut before.names, line.label.as_ref())?;
+    note_if_any(&mut before.names, literal_name(&line.statement))?;
     before.has_entry = before.has_entry || is_entry(&line.statement);
     before.segments = match line.statement {
         Statement::Seg(_) => before.segments + 1,

@@ -1,5 +1,6 @@
 ghost use Rattle.std.specs.Prelude.{◌≡◌, Some, ℕ, ◌++◌, ◌<◌, ◌^◌, map, length, unwrap_or, slice_index_or, None, IfSome, IfOk, OnOk, All};
 ghost use Rattle.std.specs.List.{flat_map};
+ghost use Rattle.std.specs.Option.{option_copied};
 ghost use Rattle.xt_lex.specs.Values.{HaveAddresses};
 ghost use Rattle.xt_layout.specs.Around.{each};
 ghost use Rattle.xt_layout.specs.Addresses.{home, label_name, label_placed, labels_at, literal_name};
@@ -8,10 +9,11 @@ ghost use Rattle.xt_layout.specs.Spots.{spot_at};
 
 use crate::PoolWord;
 use crate::addresses::signed;
+use crate::need::literal_name;
 use crate::spot::{Spot, address};
 use std::alloc::{AllocError, Global};
 use xt_lex::Label;
-use xt_parse::{Line, Placed, Statement};
+use xt_parse::{Line, Placed};
 
 /// One label more.
 fn add(labels: &mut Vec<Label>, name: &Placed, address: u64) -> Result<(), AllocError>
@@ -26,25 +28,18 @@ fn add(labels: &mut Vec<Label>, name: &Placed, address: u64) -> Result<(), Alloc
     Ok(())
 }
 
-/// The label of a line, which has the line's address.
-fn add_label(labels: &mut Vec<Label>, line: &Line, address: u64) -> Result<(), AllocError>
+/// A label more, if there is a name, which has this address.
+fn add_if_any(
+    labels: &mut Vec<Label>,
+    name: Option<&Placed>,
+    address: u64,
+) -> Result<(), AllocError>
     requires { address < 2 ^ 40 }
-    ensures { OnOk result (labels.new.items ≡ labels.old.items ++ map (label_placed address) (label_name line.now.label)) }
+    ensures { OnOk result (labels.new.items ≡ labels.old.items ++ map (label_placed address) (label_name (option_copied name.entry))) }
 {
-    match &line.label {
+    match name {
         Some(name) => add(labels, name, address),
         None => Ok(()),
-    }
-}
-
-/// The name of a `.literal`, which has this address.
-fn add_literal(labels: &mut Vec<Label>, line: &Line, address: u64) -> Result<(), AllocError>
-    requires { address < 2 ^ 40 }
-    ensures { OnOk result (labels.new.items ≡ labels.old.items ++ map (label_placed address) (literal_name line.now.statement)) }
-{
-    match &line.statement {
-        Statement::Literal(name, _) => add(labels, name, address),
-        _ => Ok(()),
     }
 }
 
@@ -60,8 +55,12 @@ fn add_names(
     ensures { OnOk result (labels.new.items ≡ labels.old.items
         ++ (map (label_placed address) (label_name line.now.label) ++ map (label_placed (unwrap_or home address)) (literal_name line.now.statement))) }
 {
-    add_label(labels, line, address)?;
-    add_literal(labels, line, home.unwrap_or(address))
+    add_if_any(labels, line.label.as_ref(), address)?;
+    add_if_any(
+        labels,
+        literal_name(&line.statement),
+        home.unwrap_or(address),
+    )
 }
 
 /// The labels and literal names of a text, in the order of their definitions.

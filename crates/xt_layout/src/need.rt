@@ -1,5 +1,6 @@
 ghost use Rattle.std.specs.Prelude.{◌≡◌};
 ghost use Rattle.std.specs.Option.{option_copied, option_map};
+ghost use Rattle.xt_layout.specs.Addresses.{label_name, literal_name};
 ghost use Rattle.xt_layout.specs.Pools.{pool_use, need, is_position, is_segment};
 ghost use Rattle.xt_layout.specs.Seen.{need_of};
 
@@ -40,6 +41,16 @@ pub(crate) fn need_of(statement: &Statement) -> Option<Need<'_>>
             Some(value) => Some(Need { name: None, value }),
             None => None,
         },
+        _ => None,
+    }
+}
+
+/// The name that a `.literal` defines.
+pub(crate) fn literal_name(statement: &Statement) -> Option<&Placed>
+    ensures { label_name (option_copied result) ≡ literal_name statement.now }
+{
+    match statement {
+        Statement::Literal(name, _) => Some(name),
         _ => None,
     }
 }

@@ -6,11 +6,21 @@ use xt_lex::AsmPlace;
 use xt_parse::{Line, Lines};
 
 /// The lines of a text with their literal pools. Contracts see the list of lines.
-#[derive(Drop)]
 pub struct Pooled {
     lines: Lines,
     words: Vec<PoolWord>,
     fault: Option<AsmPlace>,
+}
+
+// A `drop` of its own is one call at each place where a value is dropped, also in other crates.
+impl Drop for Pooled {
+    fn drop(self) {
+        let Pooled {
+            lines: _,
+            words: _,
+            fault: _,
+        } = self;
+    }
 }
 
 impl Model for Pooled {

@@ -10,12 +10,18 @@ use std::alloc::{AllocError, Global};
 use xt_parse::{Line, Statement};
 
 /// Where the lines of a text stand, and its segments.
-#[derive(Drop)]
 pub(crate) struct Walk {
     /// Where each line stands, and none without a segment.
     pub(crate) spots: Vec<Option<Spot>>,
     /// The segments.
     pub(crate) spans: Vec<Span>,
+}
+
+// A `drop` of its own is one call at each place where a value is dropped.
+impl Drop for Walk {
+    fn drop(self) {
+        let Walk { spots: _, spans: _ } = self;
+    }
 }
 
 /// The bytes of a segment, padded to a multiple of 4.

@@ -5,6 +5,9 @@ use Rattle.std.specs.List.{prefix_len}
 use Rattle.std.specs.Char.{is_ascii_digit}
 use Rattle.xt_lex.specs.declared.token.TokenKind.{TokenKind}
 use Rattle.xt_lex.specs.TextBytes.{is_word_start, number_of}
+use Rattle.xt_lex.specs.declared.fronts.Form.{Form}
+use Rattle.xt_lex.specs.declared.fronts.Form.TheVariants as form
+use Rattle.xt_lex.specs.Forms.{form_at}
 use Rattle.xt_lex.specs.Fronts.{Front, number_kind, hex_digits_front, word_front, decimal_front, hex_front, character_front, string_front, mark_front, longer, token_at}
 
 -- a byte that passes a test is none that fails it
@@ -55,89 +58,86 @@ or_none : (x : Front) → longer x None ≡ x
 or_none None = refl
 or_none (Some x) = refl
 
-word_starts : (b : ℕ) (r : List ℕ) (x : TokenKind × ℕ) → word_front (b ∷ r) ≡ Some x → is_word_start b ≡ true
-word_starts b r x h = case (is_word_start b) refl
-  where
-    case : (t : Bool) → is_word_start b ≡ t → t ≡ true
-    case true e = refl
-    case false e = cc (word_none b r e)
-
-pub word_is_longest : (bytes : List ℕ) (x : TokenKind × ℕ) → word_front bytes ≡ Some x → token_at bytes ≡ Some x
-unfolding word_front token_at
-word_is_longest [] x h = cc
-word_is_longest (b ∷ r) x h =
-    let start = word_starts b r x h in
-    rw (decimal_none b r (word_is_no_digit b start), hex_none b r (not_at is_word_start 48 b refl start), alone is_word_start b r start refl refl refl refl refl refl refl, or_none (word_front (b ∷ r))) h
-
-number_starts : (b : ℕ) (r : List ℕ) (x : TokenKind × ℕ) → longer (decimal_front (b ∷ r)) (hex_front (b ∷ r)) ≡ Some x → is_ascii_digit b ≡ true
-number_starts b r x h = case (is_ascii_digit b) refl
-  where
-    case : (t : Bool) → is_ascii_digit b ≡ t → t ≡ true
-    case true e = refl
-    case false e =
-        let no_zero : (b == 48) ≡ false = grind (arith, nat_tests) in
-        cc (rw (decimal_none b r e, hex_none b r no_zero) at h)
-
-grouped : (w d h rest : Front) (x : TokenKind × ℕ) → w ≡ None → longer d h ≡ Some x → rest ≡ None → longer w (longer d (longer h rest)) ≡ Some x
-grouped w d h rest x is_none is no_more = rw (is_none, no_more, or_none h) is
-
-pub number_is_longest : (bytes : List ℕ) (x : TokenKind × ℕ) → word_front bytes ≡ None → longer (decimal_front bytes) (hex_front bytes) ≡ Some x → token_at bytes ≡ Some x
-unfolding decimal_front hex_front token_at
-number_is_longest [] x w h = cc
-number_is_longest (b ∷ r) x w h = grouped (word_front (b ∷ r)) (decimal_front (b ∷ r)) (hex_front (b ∷ r)) _ x w h (alone is_ascii_digit b r (number_starts b r x h) refl refl refl refl refl refl refl)
-
-character_starts : (b : ℕ) (r : List ℕ) (x : TokenKind × ℕ) → character_front (b ∷ r) ≡ Some x → (b == 39) ≡ true
-character_starts b r x h = case (b == 39) refl
-  where
-    case : (t : Bool) → (b == 39) ≡ t → t ≡ true
-    case true e = refl
-    case false e = cc (character_none b r e)
-
 abbrev is_quote : ℕ → Bool
 is_quote b = b == 39
-
-chosen_some : (t : Bool) (a b : TokenKind × ℕ) → cond {A = Front} t (Some b) (Some a) ≡ None → ⊥
-chosen_some true a b e = cc
-chosen_some false a b e = cc
-
-both_none : (d h : Front) → longer d h ≡ None → (d ≡ None) × (h ≡ None)
-both_none None None e = (refl, refl)
-both_none None (Some b) e = cc
-both_none (Some a) None e = cc
-both_none (Some a) (Some b) e = absurd (chosen_some (nat_lt a.1 b.1) a b e)
-
-joined : (w d h c s m : Front) → w ≡ None → longer d h ≡ None → longer w (longer d (longer h (longer c (longer s m)))) ≡ longer c (longer s m)
-joined w d h c s m no_word no_number = rw (no_word, (both_none d h no_number).0, (both_none d h no_number).1) refl
-
-pub character_is_longest : (bytes : List ℕ) (x : TokenKind × ℕ) → word_front bytes ≡ None → longer (decimal_front bytes) (hex_front bytes) ≡ None → character_front bytes ≡ Some x → token_at bytes ≡ Some x
-unfolding character_front token_at
-character_is_longest [] x w n h = cc
-character_is_longest (b ∷ r) x w n h =
-    let start = character_starts b r x h in
-    joined (word_front (b ∷ r)) (decimal_front (b ∷ r)) (hex_front (b ∷ r)) (character_front (b ∷ r)) (string_front (b ∷ r)) (mark_front (b ∷ r)) w n
-    ∙ rw (string_none b r (not_at is_quote 34 b refl start), mark_none b r (not_at is_quote 44 b refl start) (not_at is_quote 58 b refl start) (not_at is_quote 61 b refl start) (not_at is_quote 43 b refl start) (not_at is_quote 45 b refl start), or_none (character_front (b ∷ r))) h
-
-string_starts : (b : ℕ) (r : List ℕ) (x : TokenKind × ℕ) → string_front (b ∷ r) ≡ Some x → (b == 34) ≡ true
-string_starts b r x h = case (b == 34) refl
-  where
-    case : (t : Bool) → (b == 34) ≡ t → t ≡ true
-    case true e = refl
-    case false e = cc (string_none b r e)
 
 abbrev is_double_quote : ℕ → Bool
 is_double_quote b = b == 34
 
-pub string_is_longest : (bytes : List ℕ) (x : TokenKind × ℕ) → word_front bytes ≡ None → longer (decimal_front bytes) (hex_front bytes) ≡ None → character_front bytes ≡ None → string_front bytes ≡ Some x → token_at bytes ≡ Some x
-unfolding string_front token_at
-string_is_longest [] x w n c h = cc
-string_is_longest (b ∷ r) x w n c h =
-    let start = string_starts b r x h in
-    joined (word_front (b ∷ r)) (decimal_front (b ∷ r)) (hex_front (b ∷ r)) (character_front (b ∷ r)) (string_front (b ∷ r)) (mark_front (b ∷ r)) w n
-    ∙ rw (c, mark_none b r (not_at is_double_quote 44 b refl start) (not_at is_double_quote 58 b refl start) (not_at is_double_quote 61 b refl start) (not_at is_double_quote 43 b refl start) (not_at is_double_quote 45 b refl start), or_none (string_front (b ∷ r))) h
+-- what the tests of a first byte say of its form
+word_test : (w d q s : Bool) → form.Word ≡ cond w form.Word (cond d form.Number (cond q form.Character (cond s form.Str form.Mark))) → w ≡ true
+word_test true d q s e = refl
+word_test false true q s e = cc
+word_test false false true s e = cc
+word_test false false false true e = cc
+word_test false false false false e = cc
 
-pub mark_is_longest : (bytes : List ℕ) → word_front bytes ≡ None → longer (decimal_front bytes) (hex_front bytes) ≡ None → character_front bytes ≡ None → string_front bytes ≡ None → token_at bytes ≡ mark_front bytes
+number_test : (w d q s : Bool) → form.Number ≡ cond w form.Word (cond d form.Number (cond q form.Character (cond s form.Str form.Mark))) → (w ≡ false) × (d ≡ true)
+number_test true d q s e = cc
+number_test false true q s e = (refl, refl)
+number_test false false true s e = cc
+number_test false false false true e = cc
+number_test false false false false e = cc
+
+character_test : (w d q s : Bool) → form.Character ≡ cond w form.Word (cond d form.Number (cond q form.Character (cond s form.Str form.Mark))) → (w ≡ false) × (d ≡ false) × (q ≡ true)
+character_test true d q s e = cc
+character_test false true q s e = cc
+character_test false false true s e = (refl, refl, refl)
+character_test false false false true e = cc
+character_test false false false false e = cc
+
+string_test : (w d q s : Bool) → form.Str ≡ cond w form.Word (cond d form.Number (cond q form.Character (cond s form.Str form.Mark))) → (w ≡ false) × (d ≡ false) × (q ≡ false) × (s ≡ true)
+string_test true d q s e = cc
+string_test false true q s e = cc
+string_test false false true s e = cc
+string_test false false false true e = (refl, refl, refl, refl)
+string_test false false false false e = cc
+
+mark_test : (w d q s : Bool) → form.Mark ≡ cond w form.Word (cond d form.Number (cond q form.Character (cond s form.Str form.Mark))) → (w ≡ false) × (d ≡ false) × (q ≡ false) × (s ≡ false)
+mark_test true d q s e = cc
+mark_test false true q s e = cc
+mark_test false false true s e = cc
+mark_test false false false true e = cc
+mark_test false false false false e = (refl, refl, refl, refl)
+
+no_zero : (b : ℕ) → is_ascii_digit b ≡ false → (b == 48) ≡ false
+no_zero b e = grind (arith, nat_tests)
+
+-- the token of each form is the one at the front
+pub word_alone : (bytes : List ℕ) → form.Word ≡ form_at bytes → word_front bytes ≡ token_at bytes
 unfolding token_at
-mark_is_longest bytes w n c s = joined (word_front bytes) (decimal_front bytes) (hex_front bytes) (character_front bytes) (string_front bytes) (mark_front bytes) w n ∙ rw (c, s) refl
+word_alone [] h = cc
+word_alone (b ∷ r) h =
+    let start = word_test (is_word_start b) (is_ascii_digit b) (b == 39) (b == 34) h in
+    rw (decimal_none b r (word_is_no_digit b start), hex_none b r (not_at is_word_start 48 b refl start), alone is_word_start b r start refl refl refl refl refl refl refl, or_none (word_front (b ∷ r))) refl
+
+pub number_alone : (bytes : List ℕ) → form.Number ≡ form_at bytes → longer (decimal_front bytes) (hex_front bytes) ≡ token_at bytes
+unfolding token_at
+number_alone [] h = cc
+number_alone (b ∷ r) h =
+    let t = number_test (is_word_start b) (is_ascii_digit b) (b == 39) (b == 34) h in
+    rw (word_none b r t.0, alone is_ascii_digit b r t.1 refl refl refl refl refl refl refl, or_none (hex_front (b ∷ r))) refl
+
+pub character_alone : (bytes : List ℕ) → form.Character ≡ form_at bytes → character_front bytes ≡ token_at bytes
+unfolding token_at
+character_alone [] h = cc
+character_alone (b ∷ r) h =
+    let t = character_test (is_word_start b) (is_ascii_digit b) (b == 39) (b == 34) h in
+    rw (word_none b r t.0, decimal_none b r t.1, hex_none b r (not_at is_quote 48 b refl t.2), string_none b r (not_at is_quote 34 b refl t.2), mark_none b r (not_at is_quote 44 b refl t.2) (not_at is_quote 58 b refl t.2) (not_at is_quote 61 b refl t.2) (not_at is_quote 43 b refl t.2) (not_at is_quote 45 b refl t.2), or_none (character_front (b ∷ r))) refl
+
+pub string_alone : (bytes : List ℕ) → form.Str ≡ form_at bytes → string_front bytes ≡ token_at bytes
+unfolding token_at
+string_alone [] h = cc
+string_alone (b ∷ r) h =
+    let t = string_test (is_word_start b) (is_ascii_digit b) (b == 39) (b == 34) h in
+    rw (word_none b r t.0, decimal_none b r t.1, hex_none b r (not_at is_double_quote 48 b refl t.3), character_none b r t.2, mark_none b r (not_at is_double_quote 44 b refl t.3) (not_at is_double_quote 58 b refl t.3) (not_at is_double_quote 61 b refl t.3) (not_at is_double_quote 43 b refl t.3) (not_at is_double_quote 45 b refl t.3), or_none (string_front (b ∷ r))) refl
+
+pub mark_alone : (bytes : List ℕ) → form.Mark ≡ form_at bytes → mark_front bytes ≡ token_at bytes
+unfolding word_front decimal_front hex_front character_front string_front mark_front token_at
+mark_alone [] h = refl
+mark_alone (b ∷ r) h =
+    let t = mark_test (is_word_start b) (is_ascii_digit b) (b == 39) (b == 34) h in
+    rw (word_none b r t.0, decimal_none b r t.1, hex_none b r (no_zero b t.1), character_none b r t.2, string_none b r t.3) refl
 
 -- `0x` and digits are longer than the `0` alone
 wider : (d : Front) (x : TokenKind × ℕ) (k : TokenKind) → d ≡ Some (k, 1) → 1 < x.1 → longer d (Some x) ≡ Some x

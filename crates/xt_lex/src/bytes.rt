@@ -44,7 +44,12 @@ pub fn width_of(run: Run, bytes: &[u8]) -> usize
     ensures width { result ≡ prefix_len (is_of run) bytes.now }
     ensures within { result ≤ length bytes.now }
 {
-    bytes.iter().take_while(|byte| is_of(run, **byte)).count()
+    for (i, byte) in bytes.iter().enumerate() {
+        if !is_of(run, *byte) {
+            return i;
+        }
+    }
+    bytes.len()
 }
 
 /// Whether a byte stands for itself between such quotes.

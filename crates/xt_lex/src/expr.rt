@@ -1,7 +1,7 @@
-ghost use Rattle.std.specs.Prelude.{◌≡◌, length};
+ghost use Rattle.std.specs.Prelude.{◌≡◌};
 
 use crate::Name;
-use std::alloc::{AllocError, Global};
+use std::alloc::AllocError;
 use std::marker::Model;
 
 /// What a term stands for.
@@ -26,12 +26,19 @@ impl Clone for TermValue {
 }
 
 /// A term of an expression with its sign.
-#[derive(Drop, PartialEq, Eq, PartialOrd, Ord)]
+#[derive(PartialEq, Eq, PartialOrd, Ord)]
 pub struct Term {
     /// Whether the term is taken away.
     pub minus: bool,
     /// What it stands for.
     pub value: TermValue,
+}
+
+// A `drop` of its own is one call at each place where a value is dropped, also in other crates.
+impl Drop for Term {
+    fn drop(self) {
+        let Term { minus: _, value: _ } = self;
+    }
 }
 
 impl Clone for Term {
@@ -47,9 +54,15 @@ impl Clone for Term {
 }
 
 /// An expression: the sum of its terms. Contracts see the list of terms.
-#[derive(Drop)]
 pub struct Expr {
     items: Vec<Term>,
+}
+
+// A `drop` of its own is one call at each place where a value is dropped, also in other crates.
+impl Drop for Expr {
+    fn drop(self) {
+        let Expr { items: _ } = self;
+    }
 }
 
 impl Model for Expr {
@@ -75,13 +88,6 @@ impl Expr {
     {
         &self.items
     }
-
-    /// How many terms there are.
-    pub fn len(&self) -> usize
-        ensures { result ≡ length self.now }
-    {
-        self.items.len()
-    }
 }
 
 impl Clone for Expr {
@@ -89,11 +95,6 @@ impl Clone for Expr {
     ghost is_clone = { λ x y. y ≡ x };
 
     fn clone(&self) -> Result<Self, AllocError> {
-        let alloc: Global = *self.items.allocator();
-        let mut copied = Vec::new(alloc);
-        for term in self.as_slice() {
-            copied.push(term.clone()?)?;
-        }
-        Ok(Expr::new(copied))
+        Ok(Expr::new(Vec::from_clones(*self.items.allocator(), self.as_slice())?))
     }
 }

@@ -2,13 +2,12 @@ ghost use Rattle.std.specs.Prelude.{◌≡◌};
 ghost use Rattle.xt_lex.specs.declared.fault.AsmFault.TheVariants.{Memory};
 
 use std::alloc::{AllocError, AllocFailed};
-use thiserror::Error;
 
 /// Where the first fault of an assembly text stands, and of which kind it is.
 ///
 /// The kinds are 1 Unknown, 2 Range, 3 PoolReach, 4 Twice, 5 Misaligned, 6 OutOfMap, 7 Overlap, 8 Syntax and 9 NoEntry.
 /// Kind 9 is of the whole text: its line and column are 0.
-#[derive(Clone, Copy, Debug, PartialEq, Eq)]
+#[derive(Clone, Copy)]
 pub struct AsmPlace {
     /// The number of the line, from 1.
     pub line: u32,
@@ -19,13 +18,11 @@ pub struct AsmPlace {
 }
 
 /// Why an assembly text gives no image.
-#[derive(Clone, Copy, Debug, Error)]
+#[derive(Clone, Copy)]
 pub enum AsmFault {
     /// The text has this fault.
-    #[error("line {}, column {}: fault of kind {}", .0.line, .0.column, .0.kind)]
     Place(AsmPlace),
     /// There is not enough memory.
-    #[error("not enough memory")]
     Memory,
 }
 

@@ -1,6 +1,7 @@
 ghost use Rattle.std.specs.Prelude.{◌≡◌, IfOk};
 ghost use Rattle.xt_lex.specs.TextBytes.{number_of};
 ghost use Rattle.xt_lex.specs.Fronts.{number_kind, number_kind_of, word_front, decimal_front, hex_front, longer, character_front, string_front, mark_front, token_at};
+ghost use Rattle.xt_lex.specs.Forms.{form_at};
 
 use crate::bytes::{Run, begins_word, number_in, stands_for_itself, string_rest, width_of};
 use crate::name::Name;
@@ -111,23 +112,41 @@ fn mark(bytes: &[u8]) -> Front
     }
 }
 
+/// The forms of tokens, numbers taken together.
+#[derive(Clone, Copy)]
+pub(crate) enum Form {
+    Word,
+    Number,
+    Character,
+    Str,
+    Mark,
+}
+
+// The form of the tokens that begin with the first byte.
+fn form_at(bytes: &[u8]) -> Form
+    ensures { result ≡ form_at bytes.now }
+{
+    match bytes {
+        [first, ..] if begins_word(*first) => Form::Word,
+        [first, ..] if first.is_ascii_digit() => Form::Number,
+        [b'\'', ..] => Form::Character,
+        [b'"', ..] => Form::Str,
+        _ => Form::Mark,
+    }
+}
+
 /// The longest token at the front of the bytes, and how many bytes it takes. A number from 2^32 on is `Bad`.
 ///
 /// At most one form stands at a place, numbers aside.
+#[tactic(auto, using(crate::proofs::FrontLemmas::word_alone, crate::proofs::FrontLemmas::number_alone, crate::proofs::FrontLemmas::character_alone, crate::proofs::FrontLemmas::string_alone, crate::proofs::FrontLemmas::mark_alone))]
 pub fn front(alloc: Global, bytes: &[u8]) -> Result<Front, AllocError>
     ensures { IfOk result (λ front. front ≡ token_at bytes.now) }
 {
-    if let Some(front) = word(alloc, bytes)? {
-        return Ok(Some(front));
+    match form_at(bytes) {
+        Form::Word => word(alloc, bytes),
+        Form::Number => Ok(number(bytes)),
+        Form::Character => Ok(character(bytes)),
+        Form::Str => string(alloc, bytes),
+        Form::Mark => Ok(mark(bytes)),
     }
-    if let Some(front) = number(bytes) {
-        return Ok(Some(front));
-    }
-    if let Some(front) = character(bytes) {
-        return Ok(Some(front));
-    }
-    if let Some(front) = string(alloc, bytes)? {
-        return Ok(Some(front));
-    }
-    Ok(mark(bytes))
 }

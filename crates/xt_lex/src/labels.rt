@@ -22,10 +22,16 @@ pub struct Label {
 /// Labels in the order of their definitions, among which the first of a name counts. Contracts see the list.
 ///
 /// An ordered map beside the list finds a name, so a look-up takes no walk over the labels.
-#[derive(Drop)]
 pub struct Labels {
     items: Vec<Label>,
     found: BTreeMap<Name, usize>,
+}
+
+// A `drop` of its own is one call at each place where a value is dropped, also in other crates.
+impl Drop for Labels {
+    fn drop(self) {
+        let Labels { items: _, found: _ } = self;
+    }
 }
 
 impl Model for Labels {

@@ -35,9 +35,10 @@ fn is_blank(bytes: &[u8]) -> bool
 fn valid_front(alloc: Global, bytes: &[u8]) -> Result<Option<(TokenKind, usize)>, AllocError>
     ensures { IfOk result (λ front. front ≡ valid (token_at bytes.now)) }
 {
-    match front(alloc, bytes)? {
-        None | Some((TokenKind::Bad, _)) => Ok(None),
-        Some(found) => Ok(Some(found)),
+    let found = front(alloc, bytes)?;
+    match &found {
+        Some((TokenKind::Bad, _)) => Ok(None),
+        _ => Ok(found),
     }
 }
 

@@ -1,4 +1,4 @@
-ghost use Rattle.std.specs.Prelude.{◌≡◌, length};
+ghost use Rattle.std.specs.Prelude.{◌≡◌};
 
 use crate::statement::Statement;
 use std::alloc::AllocError;
@@ -27,7 +27,6 @@ impl Clone for Placed {
 }
 
 /// A line of the text.
-#[derive(Drop)]
 pub struct Line {
     /// The number of the line, from 1.
     pub number: u32,
@@ -39,10 +38,28 @@ pub struct Line {
     pub statement: Statement,
 }
 
+// A `drop` of its own is one call at each place where a value is dropped.
+impl Drop for Line {
+    fn drop(self) {
+        let Line {
+            number: _,
+            label: _,
+            column: _,
+            statement: _,
+        } = self;
+    }
+}
+
 /// The lines of a text that have a token, in the text's order. Contracts see the list.
-#[derive(Drop)]
 pub struct Lines {
     items: Vec<Line>,
+}
+
+// A `drop` of its own is one call at each place where a value is dropped, also in other crates.
+impl Drop for Lines {
+    fn drop(self) {
+        let Lines { items: _ } = self;
+    }
 }
 
 impl Model for Lines {
@@ -67,12 +84,5 @@ impl Lines {
         ensures { result.now ≡ self.now }
     {
         &self.items
-    }
-
-    /// How many lines there are.
-    pub fn len(&self) -> usize
-        ensures { result ≡ length self.now }
-    {
-        self.items.len()
     }
 }

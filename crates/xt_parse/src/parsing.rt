@@ -64,7 +64,12 @@ fn width_of_line(line: u32, tokens: &[Token]) -> usize
     ensures width { result ≡ prefix_len (λ t. line == t.line) tokens.now }
     ensures within { result ≤ length tokens.now }
 {
-    tokens.iter().take_while(|token| line == token.line).count()
+    for (i, token) in tokens.iter().enumerate() {
+        if line != token.line {
+            return i;
+        }
+    }
+    tokens.len()
 }
 
 // How many tokens the first line has.

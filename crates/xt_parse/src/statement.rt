@@ -17,7 +17,6 @@ pub enum Operand {
 }
 
 /// What a line does.
-#[derive(Drop)]
 pub enum Statement {
     /// Nothing.
     Empty,
@@ -45,10 +44,29 @@ pub enum Statement {
     Insn(Mnemonic, Operands),
 }
 
+// A `drop` of its own is one call at each place where a value is dropped.
+impl Drop for Statement {
+    fn drop(self) {
+        match self {
+            Statement::Empty | Statement::Seg(_) | Statement::Position => {}
+            Statement::Entry(_) | Statement::Literal(_, _) => {}
+            Statement::Words(_) | Statement::Shorts(_) | Statement::Bytes(_) => {}
+            Statement::Ascii(_) | Statement::Align(_) | Statement::Space(_) => {}
+            Statement::Insn(_, _) => {}
+        }
+    }
+}
+
 /// A list of expressions. Contracts see the list.
-#[derive(Drop)]
 pub struct Exprs {
     items: Vec<Expr>,
+}
+
+// A `drop` of its own is one call at each place where a value is dropped, also in other crates.
+impl Drop for Exprs {
+    fn drop(self) {
+        let Exprs { items: _ } = self;
+    }
 }
 
 impl Model for Exprs {
@@ -84,9 +102,15 @@ impl Exprs {
 }
 
 /// The operands of an instruction, in the order of the text. Contracts see the list.
-#[derive(Drop)]
 pub struct Operands {
     items: Vec<Operand>,
+}
+
+// A `drop` of its own is one call at each place where a value is dropped, also in other crates.
+impl Drop for Operands {
+    fn drop(self) {
+        let Operands { items: _ } = self;
+    }
 }
 
 impl Model for Operands {

@@ -89,7 +89,7 @@ fn values_are_signed_sums(rt: HostRuntime) -> Result<(), Fail> {
     ];
     for (parts, wanted) in rows {
         let expr = expr_of(rt.alloc(), parts)?;
-        if expr.len() <= 1048576 && labels.as_slice().is_empty() {
+        if expr.as_slice().len() <= 1048576 && labels.as_slice().is_empty() {
             assert_eq!(rt; value(&expr, &labels), wanted);
         }
     }

@@ -9,7 +9,7 @@ fn a_text_is_its_lines(rt: HostRuntime) -> Result<(), Fail> {
         b".seg 0x40080400\n.entry start\n\n.literal_position\nstart: l32r a2, =0x3FF40000\n  movi a3, 65\n";
     let tokens = lex(rt.alloc(), text)?;
     let lines = parse(rt.alloc(), &tokens).ok().ok_or("lines")?;
-    assert_eq!(rt; lines.len(), 5);
+    assert_eq!(rt; lines.as_slice().len(), 5);
     let line = lines.as_slice().get(3).ok_or("a line")?;
     assert_eq!(rt; line.number, 5);
     assert_eq!(rt; line.column, 8);
