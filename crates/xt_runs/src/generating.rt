@@ -1,7 +1,9 @@
 //! The command `gen`.
 ghost use Rattle.std.specs.Prelude.{◌≡◌, None, IfOk};
 ghost use Rattle.xt_runs.specs.Generating.{gen_options};
-ghost use Rattle.xt_runs.specs.Runs.{FinishesGen, Generates, IsGenerated, generated_text};
+ghost use Rattle.xt_gen.specs.Generated.{generated_image};
+ghost use Rattle.xt_image.specs.ImageParts.{IsWellFormed};
+ghost use Rattle.xt_runs.specs.Runs.{FinishesGen, Generates, IsGenerated, IsRunOfImage, generated_text};
 ghost use Rattle.xt_command_line.specs.Options.{AreValid};
 
 use crate::outcome::{Outcome, without_run};
@@ -12,7 +14,7 @@ use std::sync::Wait;
 use std::thread::Threads;
 use xt_command_line::{DEFAULT_VECBASE, RunOptions, TurnOrder};
 use xt_gen::generated_image;
-use xt_image::written_length;
+use xt_image::{Image, written_length};
 use xt_io::{Gate, Refused, Sink};
 use xt_map::Text;
 use xt_report::summary;
@@ -49,6 +51,41 @@ fn gen_options() -> RunOptions
     }
 }
 
+// The run of an image with these options.
+fn run_with_them<G: Gate, R: Threads + Wait + Sync>(
+    rt: &R,
+    alloc: Global,
+    image: &Image,
+    gate: &G,
+) -> Result<Run, AllocError>
+    requires { IsWellFormed image.now }
+    ensures { IfOk result (λ run. IsRunOfImage gen_options image.now run) }
+{
+    let options = gen_options();
+    run_image(rt, alloc, &options, image, gate)
+}
+
+// The run of this image, which is that of a number, and its summary.
+fn run_summed_up<G: Gate, R: Threads + Wait + Sync>(
+    rt: &R,
+    alloc: Global,
+    number: u32,
+    image: &Image,
+    gate: &G,
+) -> Result<(Run, Text), AllocError>
+    requires image { image.now ≡ generated_image number }
+    requires well_formed { IsWellFormed image.now }
+    ensures run { IfOk result (λ made. IsGenerated number made.0) }
+    ensures text { IfOk result (λ made. made.1 ≡ generated_text number made.0) }
+{
+    let size = written_length(image);
+    let run = run_with_them(rt, alloc, image, gate)?;
+    verdict_is_so(image, &run);
+    let whole = judged(alloc, image, run)?;
+    let text = summary(alloc, number, size, &whole)?;
+    Ok((whole.run, text))
+}
+
 // The run of the image of a number, and its summary.
 fn run_generated<G: Gate, R: Threads + Wait + Sync>(
     rt: &R,
@@ -60,13 +97,7 @@ fn run_generated<G: Gate, R: Threads + Wait + Sync>(
     ensures text { IfOk result (λ made. made.1 ≡ generated_text number made.0) }
 {
     let image = generated_image(alloc, number)?;
-    let size = written_length(&image);
-    let options = gen_options();
-    let run = run_image(rt, alloc, &options, &image, gate)?;
-    verdict_is_so(&image, &run);
-    let whole = judged(alloc, &image, run)?;
-    let text = summary(alloc, number, size, &whole)?;
-    Ok((whole.run, text))
+    run_summed_up(rt, alloc, number, &image, gate)
 }
 
 /// Runs the image of a number, and writes its summary. It may wait.

@@ -113,7 +113,7 @@ pub fn run_source<S: Source, K: Sink, G: Gate, R: Threads + Wait + Sync>(
     let input = match read_to_limit(alloc, source, IMAGE_LIMIT) {
         Ok(input) => input,
         Err(ReadError::Fault) => return without_run(Status::ReadFault),
-        Err(ReadError::TooLarge) => return without_run(Status::TooLarge(8_388_608)),
+        Err(ReadError::TooLarge) => return without_run(Status::TooLarge(IMAGE_LIMIT as u32)),
         Err(ReadError::Memory) => return without_run(Status::Memory),
     };
     let image = match image_in(alloc, &input) {

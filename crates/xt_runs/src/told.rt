@@ -17,12 +17,20 @@ use xt_report::Whole;
 use xt_trace::Run;
 
 /// What is written of a run.
-#[derive(Drop)]
 pub enum Told {
     /// Its report, and the texts of the analyses that the words ask for.
     Report(Whole, Text),
     /// Its recording, for which nothing is judged.
     Recording(Run),
+}
+
+// A `drop` of its own is one call at each place where a value is dropped.
+impl Drop for Told {
+    fn drop(self) {
+        match self {
+            Told::Report(_, _) | Told::Recording(_) => {}
+        }
+    }
 }
 
 /// What is written of a run of an image. The only error is running out of memory.
