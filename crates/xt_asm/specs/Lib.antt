@@ -7,6 +7,7 @@
 -- values, because the pool is known before any address.
 pub mod Operands
 pub mod Kinds
+pub mod Widths
 pub mod Pieces
 pub mod Images
 pub mod Uses

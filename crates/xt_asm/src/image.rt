@@ -27,7 +27,12 @@ use xt_parse::Line;
 fn has_segment(lines: &[Line]) -> bool
     ensures { result ≡ has_segment lines.now }
 {
-    lines.iter().any(|line| is_segment(&line.statement))
+    for line in lines {
+        if is_segment(&line.statement) {
+            return true;
+        }
+    }
+    false
 }
 
 /// An address as a word.

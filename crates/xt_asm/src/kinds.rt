@@ -4,8 +4,9 @@ ghost use Rattle.std.specs.List.{list_any};
 ghost use Rattle.xt_lex.specs.Values.{HaveAddresses};
 ghost use Rattle.xt_parse.specs.Small.{HasShortExprs, IsShort, IsShortOperand};
 ghost use Rattle.xt_layout.specs.Findings.{at_statement};
-ghost use Rattle.xt_asm.specs.Kinds.{fits_byte, fits_short, fits_word, has_misfit, has_no_word, has_unknown, is_code, is_misaligned_target, is_out_of_reach, is_range, is_stray_entry, is_unknown, is_unknown_operand, lacks_word, misfits, misfits_pool};
+ghost use Rattle.xt_asm.specs.Kinds.{has_misfit, has_no_word, has_unknown, is_code, is_misaligned_target, is_out_of_reach, is_range, is_stray_entry, is_unknown, is_unknown_operand, lacks_word, misfits, misfits_pool};
 ghost use Rattle.xt_asm.specs.Contexts.{own_fault, site_of};
+ghost use Rattle.xt_asm.specs.Widths.{fits};
 
 use crate::operands::{Context, Made, special_in, value_of};
 use xt_layout::{is_alignment, is_space};
@@ -32,12 +33,12 @@ fn any_unknown(labels: &Labels, exprs: &[Expr]) -> bool
     requires addresses { HaveAddresses labels.now }
     ensures { result ≡ list_any (is_unknown labels.now) exprs.now }
 {
-    exprs.iter().any(
-        |e|
-            requires short { IsShort e.now }
-            requires addresses { HaveAddresses labels.now }
-        { is_unknown(labels, e) },
-    )
+    for e in exprs {
+        if is_unknown(labels, e) {
+            return true;
+        }
+    }
+    false
 }
 
 /// Whether an operand of a mnemonic with this access has an unknown label, or names no special register.
@@ -62,12 +63,12 @@ fn any_unknown_operand(labels: &Labels, access: Option<Access>, operands: &[Oper
     requires addresses { HaveAddresses labels.now }
     ensures { result ≡ list_any (is_unknown_operand labels.now access) operands.now }
 {
-    operands.iter().any(
-        |operand|
-            requires short { IsShortOperand operand.now }
-            requires addresses { HaveAddresses labels.now }
-        { is_unknown_operand(labels, access, operand) },
-    )
+    for operand in operands {
+        if is_unknown_operand(labels, access, operand) {
+            return true;
+        }
+    }
+    false
 }
 
 /// Whether a statement has an unknown label or names no special register.
@@ -90,103 +91,52 @@ fn has_unknown(labels: &Labels, statement: &Statement) -> bool
 
 // ---- Range
 
-/// Whether a value is -2^31 to 2^32 - 1.
-fn fits_word(value: i64) -> bool
-    ensures { result ≡ fits_word value }
-{
-    -0x8000_0000 <= value && value <= 0xFFFF_FFFF
+/// What holds a value.
+#[derive(Clone, Copy)]
+pub(crate) enum Width {
+    /// A word: -2^31 to 2^32 - 1.
+    Word,
+    /// A half-word: -32768 to 65535.
+    Short,
+    /// A byte: -128 to 255.
+    Byte,
 }
 
-/// Whether a value is -32768 to 65535.
-fn fits_short(value: i64) -> bool
-    ensures { result ≡ fits_short value }
+/// Whether this can hold a value.
+fn fits(width: Width, value: i64) -> bool
+    ensures { result ≡ fits width value }
 {
-    -0x8000 <= value && value <= 0xFFFF
+    match width {
+        Width::Word => -0x8000_0000 <= value && value <= 0xFFFF_FFFF,
+        Width::Short => -0x8000 <= value && value <= 0xFFFF,
+        Width::Byte => -128 <= value && value <= 255,
+    }
 }
 
-/// Whether a value is -128 to 255.
-fn fits_byte(value: i64) -> bool
-    ensures { result ≡ fits_byte value }
-{
-    -128 <= value && value <= 255
-}
-
-/// Whether the value of an expression is known and no word can hold it.
-fn misfits_word(labels: &Labels, e: &Expr) -> bool
+/// Whether the value of an expression is known and this cannot hold it.
+fn misfits(width: Width, labels: &Labels, e: &Expr) -> bool
     requires short { IsShort e.now }
     requires addresses { HaveAddresses labels.now }
-    ensures { result ≡ misfits fits_word labels.now e.now }
+    ensures { result ≡ misfits (fits width) labels.now e.now }
 {
     match value_of(labels, e) {
-        Some(value) => !fits_word(value),
+        Some(value) => !fits(width, value),
         None => false,
     }
 }
 
-/// Whether the value of an expression is known and no half-word can hold it.
-fn misfits_short(labels: &Labels, e: &Expr) -> bool
-    requires short { IsShort e.now }
+/// Whether this cannot hold one of some values.
+fn any_misfits(width: Width, labels: &Labels, exprs: &[Expr]) -> bool
+    requires short { All IsShort exprs.now }
     requires addresses { HaveAddresses labels.now }
-    ensures { result ≡ misfits fits_short labels.now e.now }
+    ensures { result ≡ list_any (misfits (fits width) labels.now) exprs.now }
 {
-    match value_of(labels, e) {
-        Some(value) => !fits_short(value),
-        None => false,
+    for e in exprs {
+        if misfits(width, labels, e) {
+            return true;
+        }
     }
-}
-
-/// Whether the value of an expression is known and no byte can hold it.
-fn misfits_byte(labels: &Labels, e: &Expr) -> bool
-    requires short { IsShort e.now }
-    requires addresses { HaveAddresses labels.now }
-    ensures { result ≡ misfits fits_byte labels.now e.now }
-{
-    match value_of(labels, e) {
-        Some(value) => !fits_byte(value),
-        None => false,
-    }
-}
-
-/// Whether no word can hold one of some values.
-fn any_misfits_word(labels: &Labels, exprs: &[Expr]) -> bool
-    requires short { All IsShort exprs.now }
-    requires addresses { HaveAddresses labels.now }
-    ensures { result ≡ list_any (misfits fits_word labels.now) exprs.now }
-{
-    exprs.iter().any(
-        |e|
-            requires short { IsShort e.now }
-            requires addresses { HaveAddresses labels.now }
-        { misfits_word(labels, e) },
-    )
-}
-
-/// Whether no half-word can hold one of some values.
-fn any_misfits_short(labels: &Labels, exprs: &[Expr]) -> bool
-    requires short { All IsShort exprs.now }
-    requires addresses { HaveAddresses labels.now }
-    ensures { result ≡ list_any (misfits fits_short labels.now) exprs.now }
-{
-    exprs.iter().any(
-        |e|
-            requires short { IsShort e.now }
-            requires addresses { HaveAddresses labels.now }
-        { misfits_short(labels, e) },
-    )
-}
-
-/// Whether no byte can hold one of some values.
-fn any_misfits_byte(labels: &Labels, exprs: &[Expr]) -> bool
-    requires short { All IsShort exprs.now }
-    requires addresses { HaveAddresses labels.now }
-    ensures { result ≡ list_any (misfits fits_byte labels.now) exprs.now }
-{
-    exprs.iter().any(
-        |e|
-            requires short { IsShort e.now }
-            requires addresses { HaveAddresses labels.now }
-        { misfits_byte(labels, e) },
-    )
+    false
 }
 
 /// Whether an operand is a use of the pool whose value no word can hold.
@@ -196,7 +146,7 @@ fn misfits_pool(labels: &Labels, operand: &Operand) -> bool
     ensures { result ≡ misfits_pool labels.now operand.now }
 {
     match operand {
-        Operand::Pool(e) => misfits_word(labels, e),
+        Operand::Pool(e) => misfits(Width::Word, labels, e),
         _ => false,
     }
 }
@@ -207,12 +157,12 @@ fn any_misfits_pool(labels: &Labels, operands: &[Operand]) -> bool
     requires addresses { HaveAddresses labels.now }
     ensures { result ≡ list_any (misfits_pool labels.now) operands.now }
 {
-    operands.iter().any(
-        |operand|
-            requires short { IsShortOperand operand.now }
-            requires addresses { HaveAddresses labels.now }
-        { misfits_pool(labels, operand) },
-    )
+    for operand in operands {
+        if misfits_pool(labels, operand) {
+            return true;
+        }
+    }
+    false
 }
 
 /// Whether a statement has a value that its bytes cannot hold, an alignment that is none, or zeros past FFFFFFFF.
@@ -224,10 +174,10 @@ fn has_misfit(context: &Context<'_>, statement: &Statement) -> bool
 {
     let labels = context.labels;
     match statement {
-        Statement::Literal(_, e) => misfits_word(labels, e),
-        Statement::Words(values) => any_misfits_word(labels, values.as_slice()),
-        Statement::Shorts(values) => any_misfits_short(labels, values.as_slice()),
-        Statement::Bytes(values) => any_misfits_byte(labels, values.as_slice()),
+        Statement::Literal(_, e) => misfits(Width::Word, labels, e),
+        Statement::Words(values) => any_misfits(Width::Word, labels, values.as_slice()),
+        Statement::Shorts(values) => any_misfits(Width::Short, labels, values.as_slice()),
+        Statement::Bytes(values) => any_misfits(Width::Byte, labels, values.as_slice()),
         Statement::Align(n) => !is_alignment(*n),
         Statement::Space(n) => !is_space(*n, context.at),
         Statement::Insn(_, operands) => any_misfits_pool(labels, operands.as_slice()),
@@ -297,7 +247,12 @@ fn lacks_word(context: &Context<'_>, operand: &Operand) -> bool
 fn any_lacks_word(context: &Context<'_>, operands: &[Operand]) -> bool
     ensures { result ≡ list_any (lacks_word (site_of context.now)) operands.now }
 {
-    operands.iter().any(|operand| lacks_word(context, operand))
+    for operand in operands {
+        if lacks_word(context, operand) {
+            return true;
+        }
+    }
+    false
 }
 
 /// Whether a statement has such a use.

@@ -59,8 +59,7 @@ fn put_word(bytes: &mut Vec<u8>, labels: &Labels, e: &Expr) -> Result<(), AllocE
     requires addresses { HaveAddresses labels.now }
     ensures { OnOk result (bytes.new.items ≡ bytes.old.items ++ word_bytes labels.now e.now) }
 {
-    bytes.extend_from_slice(&word_of(value_at(labels, e)).to_le_bytes())?;
-    Ok(())
+    bytes.extend_from_slice(&word_of(value_at(labels, e)).to_le_bytes())
 }
 
 /// Adds the bytes of some words.

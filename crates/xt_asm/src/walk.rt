@@ -20,10 +20,12 @@ fn pool_width(place: u32, words: &[PoolWord]) -> usize
     ensures width { result ≡ prefix_len (λ w. place == w.position) words.now }
     ensures within { result ≤ length words.now }
 {
-    words
-        .iter()
-        .take_while(|word| place == word.position)
-        .count()
+    for (i, word) in words.iter().enumerate() {
+        if place != word.position {
+            return i;
+        }
+    }
+    words.len()
 }
 
 /// What the statement of the line at a place refers to.

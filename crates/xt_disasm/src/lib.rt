@@ -7,4 +7,4 @@ mod operand;
 mod text;
 
 pub use lines::{front, is_code, listing, push_bytes, push_line, push_segment_line};
-pub use text::{call_address, insn_text, jump_address, literal_address};
+pub use text::{call_address, insn_text, jump_address, literal_address, push_insn};

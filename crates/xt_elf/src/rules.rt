@@ -52,15 +52,24 @@ pub(crate) fn file_fault(bytes: &[u8]) -> Option<ElfFault>
 fn first_ending_behind(end: usize, headers: &[Header]) -> Option<usize>
     ensures { result ≡ position (ends_behind end) headers.now }
 {
-    headers.iter().position(|header| is_loaded(header)
-        && end < header.offset as usize + header.file_size as usize)
+    for (i, header) in headers.iter().enumerate() {
+        if is_loaded(header) && end < header.offset as usize + header.file_size as usize {
+            return Some(i);
+        }
+    }
+    None
 }
 
 // The first header of type 1 with more bytes in the file than in memory.
 fn first_larger_in_file(headers: &[Header]) -> Option<usize>
     ensures { result ≡ position is_larger_in_file headers.now }
 {
-    headers.iter().position(|header| header.kind == 1 && header.memory_size < header.file_size)
+    for (i, header) in headers.iter().enumerate() {
+        if header.kind == 1 && header.memory_size < header.file_size {
+            return Some(i);
+        }
+    }
+    None
 }
 
 // Whether two regions are there and are one, other than UART0.
@@ -94,9 +103,12 @@ fn is_placed(header: &Header) -> bool
 fn first_misplaced(headers: &[Header]) -> Option<usize>
     ensures { result ≡ position is_misplaced headers.now }
 {
-    headers
-        .iter()
-        .position(|header| is_loaded(header) && !is_placed(header))
+    for (i, header) in headers.iter().enumerate() {
+        if is_loaded(header) && !is_placed(header) {
+            return Some(i);
+        }
+    }
+    None
 }
 
 // Whether two headers are loaded and their padded bytes share one.
@@ -112,7 +124,12 @@ fn share_bytes(one: &Header, other: &Header) -> bool
 fn first_sharing(before: &[Header], header: &Header) -> Option<usize>
     ensures { result ≡ position (λ k. do_overlap k header.now) before.now }
 {
-    before.iter().position(|other| share_bytes(other, header))
+    for (i, other) in before.iter().enumerate() {
+        if share_bytes(other, header) {
+            return Some(i);
+        }
+    }
+    None
 }
 
 // The first header whose padded bytes share one with a header before it, where so many at the front

@@ -104,11 +104,7 @@ unfoldable pub filtered_between : Filter → Image → Run → ℕ → ℕ → L
 filtered_between f image r from to =
     lines_from f image r from (min to (length (schedule_in r)) - from)
 
--- all of them as one text
-abbrev pub filtered_text : Filter → Image → Run → ℕ → ℕ → List ℕ
-filtered_text f image r from to = concat (filtered_between f image r from to)
-
--- the same of all turns
+-- the lines of all turns
 abbrev pub lines_between : Image → Run → ℕ → ℕ → List (List ℕ)
 lines_between image r from to = filtered_between everything image r from to
 

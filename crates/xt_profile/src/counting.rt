@@ -171,10 +171,10 @@ fn pass_over<'a>(
     ensures zero { IfOk result (λ p. p.1 ≡ records 0 image.now run.now) }
     ensures one { IfOk result (λ p. p.2 ≡ records 1 image.now run.now) }
 {
-    let code = Constants::make(alloc, image.segments.as_slice())?;
-    let walk = Walk::open(alloc, code, image.entry, &run.options)?;
     let cursor0 = Cursor::make(alloc, image, run, 0)?;
     let cursor1 = Cursor::make(alloc, image, run, 1)?;
+    let code = Constants::make(alloc, image.segments.as_slice())?;
+    let walk = Walk::open(alloc, code, image.entry, &run.options)?;
     Ok((walk, Peeked::new(cursor0), Peeked::new(cursor1)))
 }
 
@@ -201,8 +201,7 @@ fn count_to_cut<'a>(
         &mut records1,
         tally0,
         tally1,
-    )?;
-    Ok(())
+    )
 }
 
 /// Both cores at the cut of a run whose window handlers pass the check.

@@ -99,8 +99,7 @@ fn count_past(
         &phases.as_slice()[cut as usize..],
         &mut left,
         tally,
-    )?;
-    Ok(())
+    )
 }
 
 /// The turns of a core past the first `cut`, where a tally has counted none of them yet.

@@ -1,5 +1,5 @@
 //! The call profile of a run.
-ghost use Rattle.std.specs.Prelude.{◌≡◌, length};
+ghost use Rattle.std.specs.Prelude.{◌≡◌};
 
 use std::marker::Model;
 
@@ -31,13 +31,6 @@ impl Key {
         ensures { result.now ≡ self.now }
     {
         &self.items
-    }
-
-    /// How many addresses there are.
-    pub fn len(&self) -> usize
-        ensures { result ≡ length self.now }
-    {
-        self.items.len()
     }
 }
 
@@ -79,13 +72,6 @@ impl Lines {
     {
         &self.items
     }
-
-    /// How many lines there are.
-    pub fn len(&self) -> usize
-        ensures { result ≡ length self.now }
-    {
-        self.items.len()
-    }
 }
 
 /// The turns of one core.
@@ -109,7 +95,6 @@ pub struct CoreTurns {
 }
 
 /// The call profile of a run.
-#[derive(Drop)]
 pub enum Profile {
     /// A window handler does not pass the check, so nothing is known of frames.
     Unchecked,
@@ -117,9 +102,17 @@ pub enum Profile {
     Cores(CoreProfile, CoreProfile),
 }
 
+// A `drop` of its own is one call at each place where a value is dropped.
+impl Drop for Profile {
+    fn drop(self) {
+        match self {
+            Profile::Unchecked | Profile::Cores(_, _) => {}
+        }
+    }
+}
+
 /// A call profile, with the turns of both cores from the first breach on. If nothing is known of
 /// frames, these are all turns.
-#[derive(Drop)]
 pub struct WholeProfile {
     /// The profile.
     pub profile: Profile,
@@ -127,4 +120,15 @@ pub struct WholeProfile {
     pub after0: CoreTurns,
     /// Those turns of core 1.
     pub after1: CoreTurns,
+}
+
+// A `drop` of its own is one call at each place where a value is dropped.
+impl Drop for WholeProfile {
+    fn drop(self) {
+        let WholeProfile {
+            profile: _,
+            after0: _,
+            after1: _,
+        } = self;
+    }
 }

@@ -16,7 +16,6 @@ use std::collections::BTreeMap;
 use xt_frames::HandlerPhase;
 
 /// What is counted of a core so far.
-#[derive(Drop)]
 pub struct Tally {
     // The core's opening PC, and the PC of the ENTRY of each frame that stands, the oldest first.
     functions: Vec<u32>,
@@ -29,6 +28,20 @@ pub struct Tally {
     handlers: u32,
     // How many steps there are in all.
     steps: u32,
+}
+
+// A `drop` of its own is one call at each place where a value is dropped.
+impl Drop for Tally {
+    fn drop(self) {
+        let Tally {
+            functions: _,
+            depth: _,
+            counts: _,
+            row: _,
+            handlers: _,
+            steps: _,
+        } = self;
+    }
 }
 
 /// The key of these functions: all, or where they are more than `depth` the first, 0 for those that are left out, and
@@ -198,14 +211,13 @@ impl Tally {
 
     /// What was counted, and a tally of the steps from there on. The only error is running out of
     /// memory.
-    pub fn split(self, alloc: Global) -> Result<(CoreTurns, Tally), AllocError>
+    pub fn split(mut self, alloc: Global) -> Result<(CoreTurns, Tally), AllocError>
         requires known { (opening : Origin) × (past : List Step) × IsTally opening past self }
         ensures turns { IfOk result (λ p. (opening : Origin) (past : List Step) → IsTally opening past self → p.0 ≡ turns_past opening.start opening.first past) }
         ensures tally { IfOk result (λ p. (opening : Origin) (past : List Step) → IsTally opening past self → IsTally (from_here opening past) past p.1) }
         ensures steps { IfOk result (λ p. p.1.steps ≡ 0) }
     {
-        let mut tally = self;
-        tally.flush(alloc)?;
+        self.flush(alloc)?;
         let Tally {
             functions,
             depth,
@@ -213,7 +225,7 @@ impl Tally {
             row: _,
             handlers,
             steps: _,
-        } = tally;
+        } = self;
         let lines = lines_of(alloc, counts)?;
         let later = Tally {
             functions,

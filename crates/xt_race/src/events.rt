@@ -15,12 +15,23 @@ use xt_map::{Constants, Entry};
 use xt_trace::{Run, StepRecord};
 
 /// What is left of the entries of a history, and of the turns of both cores that made them.
-#[derive(Drop)]
 pub struct Events<'a> {
     code: Constants<'a>,
     entries: &'a [Entry],
     zero: Turns<'a>,
     one: Turns<'a>,
+}
+
+// A `drop` of its own is one call at each place where a value is dropped.
+impl Drop for Events<'_> {
+    fn drop(self) {
+        let Events {
+            code: _,
+            entries: _,
+            zero: _,
+            one: _,
+        } = self;
+    }
 }
 
 // The turns of a core of a run.

@@ -11,7 +11,6 @@ use crate::releases::Releases;
 use std::alloc::{AllocError, Global};
 
 /// What is kept of the entries so far.
-#[derive(Drop)]
 pub struct Finder {
     /// How many they are.
     pub count: u32,
@@ -21,6 +20,19 @@ pub struct Finder {
     pub seen1: u32,
     pub marks: Marks,
     pub releases: Releases,
+}
+
+// A `drop` of its own is one call at each place where a value is dropped.
+impl Drop for Finder {
+    fn drop(self) {
+        let Finder {
+            count: _,
+            seen0: _,
+            seen1: _,
+            marks: _,
+            releases: _,
+        } = self;
+    }
 }
 
 /// What one more entry comes to.

@@ -52,13 +52,7 @@ pub fn race_text(alloc: Global, image: &Image, run: &Run) -> Result<Text, AllocE
 {
     let found = pair_of(alloc, image, run)?;
     match found {
-        None => {
-            let none = none_text(alloc)?;
-            Ok(none)
-        }
-        Some(pair) => {
-            let text = pair_text(alloc, &pair)?;
-            Ok(text)
-        }
+        None => none_text(alloc),
+        Some(pair) => pair_text(alloc, &pair),
     }
 }

@@ -9,13 +9,12 @@ use Rattle.xt_trace.specs.declared.run.Run.{Run}
 use Rattle.xt_image.specs.declared.image.Image.{Image}
 use Rattle.xt_core.specs.Runs.{IsRunOf}
 use Rattle.xt_replay.specs.declared.pair.Checkpoint.{Checkpoint}
-use Rattle.xt_replay.specs.declared.pair.Mark.{Mark}
 use Rattle.xt_replay.specs.declared.pair.Pair.{Pair}
 use Rattle.xt_replay.specs.declared.replay.Replay.TheInside.{Inside}
 use Rattle.xt_replay.specs.ReplayFields.{IsCopy, IsKept, replay_in}
 use Rattle.xt_replay.specs.Places.{trace_in}
 use Rattle.xt_replay.specs.Shown.{ReplayState, Shown, shown_at, step_in}
-use Rattle.xt_replay.specs.Stands.{Comes, Fits, HasRoom, IsAsRoomy, Stand, made_in, mark_stand, stand_in, stand_of, stand_past}
+use Rattle.xt_replay.specs.Stands.{Comes, Copied, Fits, HasRoom, IsAsRoomy, Stand, made_in, mark_stand, stand_in, stand_of, stand_past}
 use Rattle.xt_replay.proofs.Keeping.{Stands, Turns, core_next, named, one_next, zero_next}
 use Rattle.xt_replay.proofs.Standing.{Bounds, bounds, fits_at, schedule_long, served_at}
 
@@ -68,10 +67,10 @@ start_fits b h =
 -- ---- copies
 
 -- what a copy has left and has sent finds room in a replay
-pub record FindsRoom (b : Inside) (m : Mark) : Type 0 where
-  pub left0 : m.left0 ≤ b.pair.core0.turns
-  pub left1 : m.left1 ≤ b.pair.core1.turns
-  pub room : length m.memory.contents.sent ≤ b.pair.memory.room
+pub record FindsRoom (b : Inside) (m : Copied) : Type 0 where
+  pub left0 : m.stand.side0.left ≤ b.pair.core0.turns
+  pub left1 : m.stand.side1.left ≤ b.pair.core1.turns
+  pub room : length m.stand.memory.sent ≤ b.pair.memory.room
 
 pub finds_room : (b : Inside) (c : Checkpoint) → IsKept b → IsCopy b.image.now b.run.now c → FindsRoom b c.mark
 finds_room b c h copy =
@@ -104,19 +103,19 @@ sent_fits b h =
     omega (arith, f.sent)
 
 -- a copy of where a replay stands
-pub copy_here : (b : Inside) (m : Mark) → IsKept b → mark_stand m ≡ stand_of b.pair → IsCopy b.image.now b.run.now (record { position = b.position; mark = m })
+pub copy_here : (b : Inside) (m : Copied) → IsKept b → mark_stand m ≡ stand_of b.pair → IsCopy b.image.now b.run.now (record { position = b.position; mark = m })
 copy_here b m h is = record { stand = is ∙ h.stand; within = h.within }
 
-made_zero_at : (image : Image) (r : Run) (c : Checkpoint) (step count : ℕ) → IsCopy image r c → c.mark.step0 ≤ step → c.mark.step0 < count → count ≡ r.trace0.count
+made_zero_at : (image : Image) (r : Run) (c : Checkpoint) (step count : ℕ) → IsCopy image r c → c.mark.stand.side0.step ≤ step → c.mark.stand.side0.step < count → count ≡ r.trace0.count
     → Comes image r 0 step c.position
 made_zero_at image r c step count copy most left all =
-    let made : c.mark.step0 ≡ step_in 0 (shown_at image r c.position) = ap (λ (s : Stand). s.side0.step) copy.stand in
+    let made : c.mark.stand.side0.step ≡ step_in 0 (shown_at image r c.position) = ap (λ (s : Stand). s.side0.step) copy.stand in
     record { most = omega (arith, most, made); behind = λ last same. absurd (omega (arith, left, made, all, last, same)) }
 
-made_one_at : (image : Image) (r : Run) (c : Checkpoint) (step count : ℕ) → IsCopy image r c → c.mark.step1 ≤ step → c.mark.step1 < count → count ≡ r.trace1.count
+made_one_at : (image : Image) (r : Run) (c : Checkpoint) (step count : ℕ) → IsCopy image r c → c.mark.stand.side1.step ≤ step → c.mark.stand.side1.step < count → count ≡ r.trace1.count
     → Comes image r 1 step c.position
 made_one_at image r c step count copy most left all =
-    let made : c.mark.step1 ≡ step_in 1 (shown_at image r c.position) = ap (λ (s : Stand). s.side1.step) copy.stand in
+    let made : c.mark.stand.side1.step ≡ step_in 1 (shown_at image r c.position) = ap (λ (s : Stand). s.side1.step) copy.stand in
     record { most = omega (arith, most, made); behind = λ last same. absurd (omega (arith, left, made, all, last, same)) }
 
 -- a copy from which it is a walk on to a core's step

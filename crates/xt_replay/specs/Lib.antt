@@ -1,5 +1,6 @@
 pub mod Places
 pub mod Shown
+pub mod Sides
 pub mod Stands
 pub mod ReplayFields
 -- Profile: the lines of `mem` and `words`; DEBUGGING.md shows them.

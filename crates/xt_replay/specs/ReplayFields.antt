@@ -29,6 +29,6 @@ pub record IsKept (r : Inside) : Type 0 where
   pub opening_is : mark_stand r.opening ≡ stand_in (world_at r.image.now r.run.now 0)
   pub copies : All (IsCopy r.image.now r.run.now) r.checkpoints.items
   pub near_is : IsCopy r.image.now r.run.now r.near
-  pub near_room : r.near.mark.memory.room ≡ r.run.now.options.turns0 + r.run.now.options.turns1
+  pub near_room : r.near.mark.room ≡ r.run.now.options.turns0 + r.run.now.options.turns1
   pub has_room : HasRoom r.pair r.run.now.options
   pub within : r.position ≤ length (schedule_in r.run.now)

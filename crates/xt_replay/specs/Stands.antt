@@ -5,7 +5,6 @@ use Rattle.std.specs.Prelude.{None, List, [], ◌∷◌, length, slice_get}
 use Rattle.std.specs.Option.{option_map_or}
 use Rattle.xt_map.specs.declared.access.Access.{Access}
 use Rattle.xt_map.specs.declared.access.Entry.{Entry}
-use Rattle.xt_map.specs.declared.contents.MemoryContents.{MemoryContents}
 use Rattle.xt_trace.specs.declared.options.Options.{Options}
 use Rattle.xt_trace.specs.declared.record.StepRecord.{StepRecord}
 use Rattle.xt_trace.specs.declared.run.Run.{Run}
@@ -14,26 +13,12 @@ use Rattle.xt_trace.specs.Runs.{Opening}
 use Rattle.xt_trace.specs.Worlds.{Core, World, left_past, answer, memory_left}
 use Rattle.xt_exec.specs.State.{State}
 use Rattle.xt_exec.specs.Turn.{demand, turn}
-use Rattle.xt_exec.specs.States.{file_state}
 use Rattle.xt_core.specs.Cores.{CoreState}
 use Rattle.xt_core.specs.Positions.{schedule_in}
 use Rattle.xt_replay.specs.Places.{place_behind, trace_in}
+pub use Rattle.xt_replay.specs.Sides.{Copied, Side, Stand}
 use Rattle.xt_replay.specs.Shown.{shown_at, step_in}
-use Rattle.xt_replay.specs.declared.pair.Mark.{Mark}
 use Rattle.xt_replay.specs.declared.pair.Pair.{Pair}
-
--- a core: its state, the turns that it has left, and the number of its next step
-pub record Side : Type 0 where
-  pub state : State
-  pub left : ℕ
-  pub step : ℕ
-
--- both cores, what memory holds, and how many accesses were served
-pub record Stand : Type 0 where
-  pub side0 : Side
-  pub side1 : Side
-  pub memory : MemoryContents
-  pub entries : ℕ
 
 abbrev pub side_of : CoreState → ℕ → Side
 side_of k step = record { state = k.state; left = k.left; step = step }
@@ -46,18 +31,13 @@ stand_of p = record {
   entries = p.used;
 }
 
-abbrev pub mark_stand : Mark → Stand
-mark_stand m = record {
-  side0 = record { state = file_state m.regs0; left = m.left0; step = m.step0 };
-  side1 = record { state = file_state m.regs1; left = m.left1; step = m.step1 };
-  memory = m.memory.contents;
-  entries = m.used;
-}
+abbrev pub mark_stand : Copied → Stand
+mark_stand m = m.stand
 
 -- how many steps a core has made at a copy
-abbrev pub made_in : ℕ → Mark → ℕ
-made_in zero m = m.step0
-made_in (suc c) m = m.step1
+abbrev pub made_in : ℕ → Copied → ℕ
+made_in zero m = m.stand.side0.step
+made_in (suc c) m = m.stand.side1.step
 
 abbrev pub side_in : Core State → Side
 side_in k = record { state = k.state; left = k.left; step = length k.records }

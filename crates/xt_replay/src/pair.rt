@@ -1,6 +1,7 @@
 //! Two cores and their memory, and copies of them.
 ghost use Rattle.std.specs.Prelude.{◌≡◌, None};
 
+use std::marker::Model;
 use xt_bus::Memory;
 use xt_core::Core;
 use xt_exec::Regs;
@@ -18,7 +19,8 @@ pub struct Pair {
     ghost waiting: { (core0.waiting ≡ None) × (core1.waiting ≡ None) },
 }
 
-/// A copy of two cores and a memory.
+/// A copy of two cores and a memory. Contracts see where they stand, and for how many bytes that are sent
+/// it has room.
 pub struct Mark {
     pub regs0: Regs<WindowFile>,
     pub regs1: Regs<WindowFile>,
@@ -28,6 +30,15 @@ pub struct Mark {
     pub step1: u32,
     pub memory: Memory,
     pub used: u32,
+}
+
+impl Model for Mark {
+    ghost use Rattle.xt_exec.specs.States.{file_state};
+    ghost use Rattle.xt_replay.specs.Sides.{Copied};
+
+    ghost Value = { Copied };
+
+    ghost view = { λ m. record { stand = record { side0 = record { state = file_state m.regs0; left = m.left0; step = m.step0 }; side1 = record { state = file_state m.regs1; left = m.left1; step = m.step1 }; memory = m.memory.contents; entries = m.used }; room = m.memory.room } };
 }
 
 // A `drop` of its own is a call at each place where a value is dropped; a derived one is laid out there

@@ -92,21 +92,19 @@ impl Checkpoint {
         ensures most { result ≡ true → made_in core self.now.mark ≤ step }
         ensures left { result ≡ true → made_in core self.now.mark < count }
     {
-        let made = if core == 0 {
-            self.mark.step0
-        } else {
-            self.mark.step1
-        };
+        let made = self.mark.made(core);
         made <= step && made < count
     }
 }
 
-// How many of the copies come before a core's step with this number.
+// How many of the copies come before a core's step with this number: those before the first that does not.
 fn copies_before(copies: &[Checkpoint], core: u8, step: u32, count: u32) -> usize {
-    copies
-        .iter()
-        .filter(|checkpoint| checkpoint.is_before(core, step, count))
-        .count()
+    for n in 0..copies.len() {
+        if !copies[n].is_before(core, step, count) {
+            return n;
+        }
+    }
+    copies.len()
 }
 
 impl<'a> Replay<'a> {

@@ -8,7 +8,7 @@ ghost use Rattle.xt_exec.specs.States.{file_state};
 ghost use Rattle.xt_exec.specs.Turn.{demand, turn};
 ghost use Rattle.xt_core.specs.Cores.{core_after_turn};
 ghost use Rattle.xt_core.specs.Runs.{opening_of};
-ghost use Rattle.xt_replay.specs.Stands.{entries_past, HasRoom, IsAsRoomy, IsReply, mark_stand, next_reply, stand_of, stand_opening, stand_past};
+ghost use Rattle.xt_replay.specs.Stands.{entries_past, HasRoom, IsAsRoomy, IsReply, made_in, mark_stand, next_reply, stand_of, stand_opening, stand_past};
 
 use crate::pair::{Mark, Pair};
 use std::alloc::{AllocError, Global};
@@ -125,7 +125,7 @@ impl Pair {
     pub fn mark(&self, alloc: Global, room: usize) -> Result<Mark, AllocError>
         requires { length self.now.memory.contents.sent ≤ room }
         ensures stand { IfOk result (λ m. mark_stand m ≡ stand_of self.now) }
-        ensures room { IfOk result (λ m. m.memory.room ≡ room) }
+        ensures room { IfOk result (λ m. m.room ≡ room) }
     {
         let mut memory = Memory::make(alloc, &[], &[], room)?;
         memory.copy_from(&self.memory);
@@ -145,9 +145,9 @@ impl Pair {
     ///
     /// Conditions: the turns that the copy has left and the bytes that it has sent find room.
     pub fn restore(&mut self, mark: &Mark)
-        requires left0 { mark.now.left0 ≤ self.old.core0.turns }
-        requires left1 { mark.now.left1 ≤ self.old.core1.turns }
-        requires room { length mark.now.memory.contents.sent ≤ self.old.memory.room }
+        requires left0 { mark.now.stand.side0.left ≤ self.old.core0.turns }
+        requires left1 { mark.now.stand.side1.left ≤ self.old.core1.turns }
+        requires room { length mark.now.stand.memory.sent ≤ self.old.memory.room }
         ensures stand { stand_of self.new ≡ mark_stand mark.now }
         ensures room { IsAsRoomy self.old self.new }
     {
@@ -161,13 +161,20 @@ impl Pair {
 }
 
 impl Mark {
+    /// How many steps a core has made.
+    pub fn made(&self, core: u8) -> u32
+        ensures { result ≡ made_in core self.now }
+    {
+        if core == 0 { self.step0 } else { self.step1 }
+    }
+
     /// Makes it the copy of others. Takes no memory.
     ///
     /// Condition: the bytes that they have sent find room.
     pub fn copy_from(&mut self, pair: &Pair)
-        requires { length pair.now.memory.contents.sent ≤ self.old.memory.room }
+        requires { length pair.now.memory.contents.sent ≤ self.old.room }
         ensures stand { mark_stand self.new ≡ stand_of pair.now }
-        ensures room { self.new.memory.room ≡ self.old.memory.room }
+        ensures room { self.new.room ≡ self.old.room }
     {
         self.regs0 = *pair.core0.regs();
         self.regs1 = *pair.core1.regs();

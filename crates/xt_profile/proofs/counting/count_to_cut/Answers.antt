@@ -1,4 +1,5 @@
 use Rattle.std.proofs.Common.{◌≡◌, ◌≤◌, length, arith}
+use Rattle.std.proofs.lemmas.Result.{on_ok_weaker}
 use Rattle.xt_frames.specs.Verdict.{opening_known}
 use Rattle.xt_frames.specs.Walked.{opening_walked}
 use Rattle.xt_discipline.specs.Schedules.{schedule_in}
@@ -40,9 +41,10 @@ follow-requires-clause-room c =
     omega (arith, s0, s1, short)
 
 pub returns : goal.returns
-returns c d h =
+returns c =
     let pass = c.in_ok-walk in
     let opened = c.in_ok-walk.ensures in
-    cut_is d pass.walk c.args.image.now c.args.run.now pass.records0 pass.records1 c.args.tally0.now
+    on_ok_weaker c.follow.result
+    (λ follows d h. cut_is d pass.walk c.args.image.now c.args.run.now pass.records0 pass.records1 c.args.tally0.now
     c.args.tally1.now c.follow.new.tally0 c.follow.new.tally1 opened.walk opened.zero opened.one h
-    c.in_ok-follow.ensures
+    follows) c.follow.ensures

@@ -1,5 +1,6 @@
 use Rattle.std.proofs.Common.{◌≡◌, ◌+◌, ◌-◌, ◌<◌, ◌≤◌, ◌^◌, ℕ, List, drop, length, take, refl, sym, ap, subst, ◌∙◌, arith}
 use Rattle.std.proofs.lemmas.List.{length-drop, take_rest}
+use Rattle.std.proofs.lemmas.Result.{on_ok_weaker}
 use Rattle.xt_map.specs.Memory.{constant_byte}
 use Rattle.xt_frames.specs.declared.kinds.HandlerPhase.{HandlerPhase}
 use Rattle.xt_discipline.specs.Phases.{phases_of}
@@ -45,7 +46,7 @@ count_left-requires-clause-room c =
     len (few_records c.args.core c.args.image.now c.args.run.now c.requires.run.valid)
 
 pub returns : goal.returns
-returns c o past h =
+returns c =
     let now = c.as_slice-2.result.now in
     let cut = c.args.cut in
     let image = c.args.image.now in
@@ -55,9 +56,10 @@ returns c o past h =
     let phases_is : now ≡ phases_of (code_of image) all =
     c.as_slice-2.ensures
     ∙ (c.in_ok-phases.ensures ∙ ap (λ (f : ℕ → ℕ). phases_of f all) code_is) in
-    later_tally o past code (code_of image) (take (length now - cut) (drop cut now))
+    on_ok_weaker c.count_left.result
+    (λ counts o past h. later_tally o past code (code_of image) (take (length now - cut) (drop cut now))
     (drop cut (phases_of (code_of image) all)) c.pass.new.records (drop cut all)
     c.count_left.new.tally code_is
     (take_rest now cut ∙ ap (λ (l : List HandlerPhase). drop cut l) phases_is)
     (c.pass.ensures ∙ ap (λ (l : List StepRecord). drop cut l) c.in_ok-left.ensures)
-    (c.in_ok-count_left.ensures o past h)
+    (counts o past h)) c.count_left.ensures
