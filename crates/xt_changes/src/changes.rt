@@ -22,10 +22,16 @@ pub struct Change {
 
 /// What a memory holds, as the bytes that differ from those that it opened with, in rising order of
 /// their addresses, and the bytes that UART0 has sent. Contracts see both lists.
-#[derive(Drop)]
 pub struct Changes {
     bytes: Vec<Change>,
     sent: Vec<u8>,
+}
+
+// A `drop` of its own is one call at each place where a value is dropped.
+impl Drop for Changes {
+    fn drop(self) {
+        let Changes { bytes: _, sent: _ } = self;
+    }
 }
 
 impl Model for Changes {

@@ -17,7 +17,7 @@ use Rattle.xt_search.specs.declared.graph.Kept.{Kept}
 use Rattle.xt_search.specs.Graphs.{IsAt}
 use Rattle.xt_search.specs.Meetings.{run}
 use Rattle.xt_outcomes.specs.KeptWorlds.{moved_spot, spot_of}
-use Rattle.xt_outcomes.specs.Spots.{Side}
+use Rattle.xt_outcomes.specs.Spots.{Side, Spot}
 use Rattle.xt_judged.specs.Orders.{first_scene}
 use Rattle.xt_judged.specs.Scenes.{Scene, Told, is_idle, scene_bars, scene_past}
 use Rattle.xt_judged.specs.Scenes.{with_standing}
@@ -61,18 +61,23 @@ abbrev pub other_of : ℕ → kept.Scene → standing.Standing
 other_of zero s = s.standing1.value
 other_of (suc c) s = s.standing0.value
 
--- the core has come so far, so much is known of it, these bytes are stale, and this core goes on
--- alone
+-- the cores and memory have come so far, so much is known of the core, these bytes are stale, and
+-- this core goes on alone
+abbrev pub scene_with :
+    MemoryContents → ℕ → kept.Scene → Spot State → standing.Standing → List ℕ → Option ℕ → Scene
+scene_with m c s spot st stale only = record (with_standing c (standing_of st) (scene_of m s)) {
+  spot = spot;
+  stale = among stale;
+  only = only;
+  breach = None;
+}
+
+-- the same, where the core and memory have come so far
 abbrev pub moved_scene :
     MemoryContents → ℕ → kept.Scene → Side State → ChangesState → standing.Standing → List ℕ
     → Option ℕ → Scene
 moved_scene m c s side changes st stale only =
-    record (with_standing c (standing_of st) (scene_of m s)) {
-      spot = moved_spot c side (contents_of m changes) (spot_of m s.world);
-      stale = among stale;
-      only = only;
-      breach = None;
-    }
+    scene_with m c s (moved_spot c side (contents_of m changes) (spot_of m s.world)) st stale only
 
 -- both scenes are equal, but that their worlds may only hold the same
 pub record IsJudgedAs (v w : kept.Scene) : Type 0 where

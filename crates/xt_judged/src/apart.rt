@@ -5,17 +5,18 @@ ghost use Rattle.xt_map.specs.Placing.{IsPlaced};
 ghost use Rattle.xt_trace.specs.Validity.{IsValid};
 ghost use Rattle.xt_image.specs.ImageParts.{FitsImage};
 ghost use Rattle.xt_discipline.specs.Verdicts.{are_checked};
+ghost use Rattle.xt_judged.specs.Kept.{IsTree};
 ghost use Rattle.xt_judged.specs.Runs.{AllAreWhole};
 ghost use Rattle.xt_judged.specs.WatchedSearch.{AreAllSettled, AreStacksApart, IsSearch};
 
 use crate::judging::Desk;
-use crate::opening::open_watched;
+use crate::opening::{open_watched, open_world};
 use crate::watched::Watched;
 use crate::watching::Watching;
 use std::alloc::{AllocError, Global};
 use xt_changes::Changes;
 use xt_image::Image;
-use xt_outcomes::{Dead, Places, Seen, Timed, World};
+use xt_outcomes::{Places, Seen, Timed, World};
 use xt_search::{Graph, has_all, search};
 use xt_trace::Options;
 
@@ -29,10 +30,19 @@ const FIRST: u32 = 1024;
 const MOST_WATCHED: u32 = 16384;
 
 /// The machine of an image, and what was found.
-#[derive(Drop)]
 pub struct OwnSearch<'a> {
     pub machine: Watching<'a>,
     pub graph: Graph<Watched>,
+}
+
+// A `drop` of its own is one call at each place where a value is dropped.
+impl Drop for OwnSearch<'_> {
+    fn drop(self) {
+        let OwnSearch {
+            machine: _,
+            graph: _,
+        } = self;
+    }
 }
 
 // A search by these places. The only error is running out of memory.
@@ -48,18 +58,11 @@ fn search_by<'a>(
     requires valid { IsValid options.now }
     requires fits { FitsImage image.now }
     requires placed { IsPlaced image.now.segments }
-    ensures { IfOk result (IsSearch image.now options.now timed) }
+    ensures search { IfOk result (IsSearch image.now options.now timed) }
+    ensures tree { IfOk result (λ s. IsTree s.graph) }
 {
     let machine = Watching {
-        timed: Timed::make(
-            alloc,
-            image,
-            options,
-            timed,
-            Places::met(alloc),
-            Dead::none(alloc),
-            0,
-        )?,
+        timed: Timed::plain(alloc, image, options, timed)?,
         places,
         stack0: options.stack0,
         stack1: options.stack1,
@@ -109,20 +112,12 @@ fn watch_both(
     requires fits { FitsImage image.now }
     requires placed { IsPlaced image.now.segments }
 {
-    let machine = Timed::make(
-        alloc,
-        image,
-        options,
-        timed,
-        Places::met(alloc),
-        Dead::none(alloc),
-        0,
-    )?;
-    let opening = open_watched(alloc, image, options, timed)?;
+    let machine = Timed::plain(alloc, image, options, timed)?;
+    let opening = open_world(alloc, image, options, timed)?;
     for first in 0..2u8 {
         let mut changes = Changes::new(alloc);
-        watch(&machine, &opening.world, &mut changes, first, seen)?;
-        watch(&machine, &opening.world, &mut changes, 1 - first, seen)?;
+        watch(&machine, &opening, &mut changes, first, seen)?;
+        watch(&machine, &opening, &mut changes, 1 - first, seen)?;
     }
     Ok(())
 }
@@ -192,7 +187,8 @@ pub fn search_watched<'a>(
     requires valid { IsValid options.now }
     requires fits { FitsImage image.now }
     requires placed { IsPlaced image.now.segments }
-    ensures { IfOk result (IsSearch image.now options.now timed) }
+    ensures search { IfOk result (IsSearch image.now options.now timed) }
+    ensures tree { IfOk result (λ s. IsTree s.graph) }
 {
     let mut seen = Seen::new(alloc)?;
     watch_both(alloc, image, options, timed, &mut seen)?;

@@ -3,6 +3,7 @@ ghost use Rattle.std.specs.Prelude.{◌≡◌, ◌++◌, IfOk, OnOk, string_byte
 ghost use Rattle.xt_judged.specs.FrameLines.{breach_line, frames_lines, frames_word};
 
 use crate::frames::{Frames, OrderBreach};
+use crate::lines::append;
 use crate::order_rows::order_text;
 use std::alloc::{AllocError, Global};
 use xt_report::kind_text;
@@ -37,7 +38,7 @@ fn push_breaches(alloc: Global, out: &mut Vec<u8>, list: &[OrderBreach]) -> Resu
 {
     for breach in list {
         let line = breach_line(alloc, breach)?;
-        out.extend_from_slice(line.as_bytes())?;
+        append(out, line)?;
     }
     Ok(())
 }
@@ -49,7 +50,7 @@ pub fn push_frames(alloc: Global, out: &mut Vec<u8>, frames: &Frames) -> Result<
 {
     let word = frames_word(frames);
     let line = format!(in alloc; "frames {word}\n")?;
-    out.extend_from_slice(line.as_bytes())?;
+    append(out, line)?;
     match frames {
         Frames::Broken(list) => push_breaches(alloc, out, list.as_slice()),
         Frames::Unknown => Ok(()),

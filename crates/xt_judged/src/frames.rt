@@ -43,7 +43,6 @@ impl OrderBreach {
 }
 
 /// What is judged of the runs of all orders by the discipline of the stack.
-#[derive(Drop)]
 pub enum Frames {
     /// Nothing is known of them all.
     Unknown,
@@ -53,6 +52,18 @@ pub enum Frames {
     Whole,
     /// The runs of these orders break it, at least one, each in another way or at another place.
     Broken(Vec<OrderBreach>),
+}
+
+// A `drop` of its own is one call at each place where a value is dropped.
+impl Drop for Frames {
+    fn drop(self) {
+        match self {
+            Frames::Unknown => {}
+            Frames::Unchecked => {}
+            Frames::Whole => {}
+            Frames::Broken(_) => {}
+        }
+    }
 }
 
 // What is judged by the breaches that a search met. The only error is running out of memory.
@@ -144,8 +155,9 @@ pub fn judge_orders(
         return Ok(Frames::Unchecked);
     }
     let mut desk = Desk::make(alloc)?;
-    match judge_apart(alloc, image, options, timed, &mut desk, most)? {
-        Frames::Unknown => judge_both(alloc, image, options, timed, &mut desk, most),
-        frames => Ok(frames),
+    let frames = judge_apart(alloc, image, options, timed, &mut desk, most)?;
+    if let Frames::Unknown = &frames {
+        return judge_both(alloc, image, options, timed, &mut desk, most);
     }
+    Ok(frames)
 }

@@ -4,6 +4,7 @@ ghost use Rattle.xt_map.specs.Placing.{IsPlaced};
 ghost use Rattle.xt_trace.specs.Validity.{IsValid};
 ghost use Rattle.xt_image.specs.ImageParts.{FitsImage};
 ghost use Rattle.xt_discipline.specs.Verdicts.{are_checked};
+ghost use Rattle.xt_judged.specs.Kept.{IsTree};
 ghost use Rattle.xt_judged.specs.Runs.{AllAreWhole};
 ghost use Rattle.xt_judged.specs.Searched.{IsSearch};
 
@@ -13,7 +14,7 @@ use crate::opening::open;
 use crate::scene::Scene;
 use std::alloc::{AllocError, Global};
 use xt_image::Image;
-use xt_outcomes::{Dead, Places, Timed};
+use xt_outcomes::Timed;
 use xt_search::{Graph, has_all, search};
 use xt_trace::Options;
 
@@ -21,10 +22,19 @@ use xt_trace::Options;
 const MOST_ALONE: u16 = 4096;
 
 /// The machine of an image, and the scenes that were found.
-#[derive(Drop)]
 pub struct Search<'a> {
     pub machine: Judging<'a>,
     pub graph: Graph<Scene>,
+}
+
+// A `drop` of its own is one call at each place where a value is dropped.
+impl Drop for Search<'_> {
+    fn drop(self) {
+        let Search {
+            machine: _,
+            graph: _,
+        } = self;
+    }
 }
 
 /// The scenes of an image, at most so many. The only error is running out of memory.
@@ -42,18 +52,11 @@ pub fn search_scenes<'a>(
     requires valid { IsValid options.now }
     requires fits { FitsImage image.now }
     requires placed { IsPlaced image.now.segments }
-    ensures { IfOk result (IsSearch image.now options.now timed) }
+    ensures search { IfOk result (IsSearch image.now options.now timed) }
+    ensures tree { IfOk result (λ s. IsTree s.graph) }
 {
     let machine = Judging {
-        timed: Timed::make(
-            alloc,
-            image,
-            options,
-            timed,
-            Places::met(alloc),
-            Dead::none(alloc),
-            0,
-        )?,
+        timed: Timed::plain(alloc, image, options, timed)?,
         most_alone: MOST_ALONE,
         alloc,
     };

@@ -3,7 +3,6 @@
 ghost use Rattle.std.specs.Prelude.{◌≡◌, ◌<◌, Some, IfOk};
 ghost use Rattle.xt_map.specs.Memory.{constant_byte};
 ghost use Rattle.xt_map.specs.declared.contents.MemoryContents.{MemoryContents};
-ghost use Rattle.xt_outcomes.specs.KeptWorlds.{spot_of};
 ghost use Rattle.xt_judged.specs.Alone.{is_other, only_after};
 ghost use Rattle.xt_judged.specs.Scenes.{is_idle, seen_at};
 ghost use Rattle.xt_judged.specs.Kept.{IsTurn, bars, bounds0, bounds1, goes_on, moved_scene, other_of, own_of, scene_of, stretch};
@@ -14,7 +13,7 @@ ghost use Rattle.xt_judged.specs.WatchedKept.{watched_of};
 ghost use Rattle.xt_trace.specs.Validity.{IsValid};
 
 use crate::clock::uses_time;
-use crate::moved::is_same_world;
+use crate::moved::{is_same_world, moved_world};
 use crate::record::{Known, see_record};
 use crate::scene::{Scene, Shown, Standing};
 use crate::stale::Stale;
@@ -23,12 +22,11 @@ use std::alloc::{AllocError, Global};
 use std::rc::Rc;
 use xt_changes::Changes;
 use xt_frames::BreachKind;
-use xt_outcomes::{Part, Shelf, Side, Timed, World};
+use xt_outcomes::{Shared, Shelf, Side, Timed};
 use xt_search::Machine;
 use xt_trace::{Options, StepRecord};
 
 /// The machine of an image, whose turns the judge sees.
-#[derive(Drop)]
 pub struct Judging<'a> {
     pub timed: Timed<'a>,
     /// How many turns a core makes alone at once at most, after a turn.
@@ -36,35 +34,33 @@ pub struct Judging<'a> {
     pub alloc: Global,
 }
 
-// A scene, and how many turns of a core led to it.
-#[derive(Drop)]
-struct Run {
-    scene: Scene,
-    turns: u32,
+// A `drop` of its own is one call at each place where a value is dropped.
+impl Drop for Judging<'_> {
+    fn drop(self) {
+        let Judging {
+            timed: _,
+            most_alone: _,
+            alloc: _,
+        } = self;
+    }
 }
 
 /// What the kept states of a search share, and a core that makes turns.
-#[derive(Drop)]
 pub struct Desk {
-    sides: Shelf<Side>,
-    changes: Shelf<Changes>,
+    shared: Shared,
     standings: Shelf<Standing>,
     stales: Shelf<Stale>,
     judges: Shelf<OwnJudge>,
 }
 
-// The kept part that is equal to this one: itself, if it has another owner. The only error is running out
-// of memory.
-fn shelved<T: Part + Drop>(
-    shelf: &mut Shelf<T>,
-    alloc: Global,
-    part: Rc<T>,
-) -> Result<Rc<T>, AllocError>
-    ensures { IfOk result (λ rc. rc.value ≡ part.value) }
-{
-    match Rc::try_unwrap(part) {
-        Ok(value) => shelf.shared(alloc, value),
-        Err(part) => Ok(part),
+impl Drop for Desk {
+    fn drop(self) {
+        let Desk {
+            shared: _,
+            standings: _,
+            stales: _,
+            judges: _,
+        } = self;
     }
 }
 
@@ -72,60 +68,32 @@ impl Desk {
     /// Nothing is shared yet. The only error is running out of memory.
     pub fn make(alloc: Global) -> Result<Desk, AllocError> {
         Ok(Desk {
-            sides: Shelf::new(alloc)?,
-            changes: Shelf::new(alloc)?,
+            shared: Shared::new(alloc)?,
             standings: Shelf::new(alloc)?,
             stales: Shelf::new(alloc)?,
             judges: Shelf::new(alloc)?,
         })
     }
 
-    // The same world, of parts that are kept. The only error is running out of memory.
-    fn world(&mut self, alloc: Global, world: World) -> Result<World, AllocError>
-        ensures { IfOk result (λ w. (m : MemoryContents) → spot_of m w ≡ spot_of m world) }
+    // Puts parts that are shared in place of those of a scene. The only error is running out of memory.
+    fn keep_scene(&mut self, scene: &mut Scene) -> Result<(), AllocError>
+        ensures scene { (m : MemoryContents) → scene_of m scene.new ≡ scene_of m scene.old }
+        ensures same0 { bounds0 scene.new ≡ bounds0 scene.old }
+        ensures same1 { bounds1 scene.new ≡ bounds1 scene.old }
     {
-        Ok(World {
-            side0: shelved(&mut self.sides, alloc, world.side0)?,
-            side1: shelved(&mut self.sides, alloc, world.side1)?,
-            changes: shelved(&mut self.changes, alloc, world.changes)?,
-        })
+        self.shared.keep(&mut scene.world)?;
+        self.standings.keep(&mut scene.standing0)?;
+        self.standings.keep(&mut scene.standing1)?;
+        self.stales.keep(&mut scene.stale)
     }
 
-    // The same scene, of parts that are kept, to which so many turns led. The only error is running out of
-    // memory.
-    fn scene(&mut self, alloc: Global, scene: Scene, turns: u32) -> Result<Scene, AllocError>
-        ensures scene { IfOk result (λ s. (m : MemoryContents) → scene_of m s ≡ scene_of m scene) }
-        ensures same0 { IfOk result (λ s. bounds0 s ≡ bounds0 scene) }
-        ensures same1 { IfOk result (λ s. bounds1 s ≡ bounds1 scene) }
+    /// Puts parts that are shared in place of these. The only error is running out of memory.
+    pub fn keep_watched(&mut self, watched: &mut Watched) -> Result<(), AllocError>
+        ensures { (m : MemoryContents) → watched_of m watched.new ≡ watched_of m watched.old }
     {
-        Ok(Scene {
-            world: self.world(alloc, scene.world)?,
-            standing0: shelved(&mut self.standings, alloc, scene.standing0)?,
-            standing1: shelved(&mut self.standings, alloc, scene.standing1)?,
-            stale: shelved(&mut self.stales, alloc, scene.stale)?,
-            only: scene.only,
-            breach: scene.breach,
-            turns,
-        })
-    }
-}
-
-impl Desk {
-    /// The same, of parts that are kept, to which so many turns led. The only error is running out of memory.
-    pub fn watched(
-        &mut self,
-        alloc: Global,
-        watched: Watched,
-        turns: u32,
-    ) -> Result<Watched, AllocError>
-        ensures { IfOk result (λ w. (m : MemoryContents) → watched_of m w ≡ watched_of m watched) }
-    {
-        Ok(Watched {
-            world: self.world(alloc, watched.world)?,
-            judge0: shelved(&mut self.judges, alloc, watched.judge0)?,
-            judge1: shelved(&mut self.judges, alloc, watched.judge1)?,
-            turns,
-        })
+        self.shared.keep(&mut watched.world)?;
+        self.judges.keep(&mut watched.judge0)?;
+        self.judges.keep(&mut watched.judge1)
     }
 }
 
@@ -220,11 +188,10 @@ impl<'a> Judging<'a> {
         ensures same1 { IfOk result (λ s. bounds1 s ≡ bounds1 scene.now) }
     {
         let Known { standing, stale } = known;
-        let side = Rc::new(self.alloc, side)?;
-        let changes = Rc::new(self.alloc, changes)?;
-        let standing = Rc::new(self.alloc, standing)?;
         let stale = renewed(self.alloc, &scene.stale, stale)?;
-        scene.moved(core, side, changes, standing, stale, only_after(core, rec))
+        let standing = Rc::new(self.alloc, standing)?;
+        let world = moved_world(self.alloc, &scene.world, core, side, changes)?;
+        scene.moved(core, world, standing, stale, only_after(core, rec))
     }
 
     // The scene past a turn of a core. The only error is running out of memory.
@@ -285,22 +252,24 @@ impl<'a> Judging<'a> {
     // A turn of a core, and then those that it makes alone. The only error is running out of memory.
     //
     // Condition: the core is 0 or 1.
-    fn run(&self, scene: &Scene, core: u8) -> Result<Run, AllocError>
+    fn run(&self, scene: &Scene, core: u8) -> Result<Scene, AllocError>
         requires { core < 2 }
-        ensures stretch { let t = self.now.timed in IfOk result (λ r. scene_of t.opening.contents r.scene ≡ stretch (constant_byte t.code) (bounds0 scene.now) (bounds1 scene.now) t.timed self.now.most_alone core (scene_of t.opening.contents scene.now)) }
-        ensures same0 { IfOk result (λ r. bounds0 r.scene ≡ bounds0 scene.now) }
-        ensures same1 { IfOk result (λ r. bounds1 r.scene ≡ bounds1 scene.now) }
+        ensures stretch { let t = self.now.timed in IfOk result (λ s. scene_of t.opening.contents s ≡ stretch (constant_byte t.code) (bounds0 scene.now) (bounds1 scene.now) t.timed self.now.most_alone core (scene_of t.opening.contents scene.now)) }
+        ensures same0 { IfOk result (λ s. bounds0 s ≡ bounds0 scene.now) }
+        ensures same1 { IfOk result (λ s. bounds1 s ≡ bounds1 scene.now) }
     {
         let mut next = self.turn(scene, core)?;
         let mut turns = 1;
         for made in 0..self.most_alone {
             if !self.goes_on(&next, core) {
-                return Ok(Run { scene: next, turns });
+                next.turns = turns;
+                return Ok(next);
             }
             next = self.turn(&next, core)?;
             turns += 1;
         }
-        Ok(Run { scene: next, turns })
+        next.turns = turns;
+        Ok(next)
     }
 }
 
@@ -333,9 +302,9 @@ impl<'a> Machine for Judging<'a> {
         if self.bars(scene, core) {
             return Ok(None);
         }
-        let run = self.run(scene, core)?;
-        let scene = desk.scene(self.alloc, run.scene, run.turns)?;
-        Ok(Some(scene))
+        let mut next = self.run(scene, core)?;
+        desk.keep_scene(&mut next)?;
+        Ok(Some(next))
     }
 
     fn is_same(&self, a: &Scene, b: &Scene) -> bool {

@@ -13,6 +13,7 @@ mod gone;
 mod joint;
 mod judging;
 pub mod laws;
+mod lines;
 mod live;
 mod moved;
 mod opening;

@@ -1,14 +1,15 @@
 //! Scenes past a turn.
 ghost use Rattle.std.specs.Prelude.{◌≡◌, Some, true, IfOk, option_map};
 ghost use Rattle.xt_map.specs.declared.contents.MemoryContents.{MemoryContents};
-ghost use Rattle.xt_outcomes.specs.KeptWorlds.{spot_of};
+ghost use Rattle.xt_changes.specs.Changed.{contents_of};
+ghost use Rattle.xt_outcomes.specs.KeptWorlds.{moved_spot, spot_of};
 ghost use Rattle.xt_outcomes.specs.Spots.{side_of};
-ghost use Rattle.xt_judged.specs.Kept.{IsJudgedAs, bounds0, bounds1, moved_scene, other_of, own_of, scene_of, told_of};
+ghost use Rattle.xt_judged.specs.Kept.{IsJudgedAs, bounds0, bounds1, other_of, own_of, scene_of, scene_with, told_of};
 ghost use Rattle.xt_judged.specs.Lives.{AreApart};
 
 use crate::scene::{Scene, Shown, Standing, is_same_breach, is_same_core};
 use crate::stale::Stale;
-use std::alloc::AllocError;
+use std::alloc::{AllocError, Global};
 use std::rc::Rc;
 use xt_changes::Changes;
 use xt_outcomes::{Side, World};
@@ -35,6 +36,33 @@ pub(crate) fn is_same_world(a: &World, b: &World) -> bool
         return false;
     }
     a.changes.is_same(b.changes.as_ref())
+}
+
+/// The world in which a core has come so far. The only error is running out of memory.
+pub(crate) fn moved_world(
+    alloc: Global,
+    world: &World,
+    core: u8,
+    side: Side,
+    changes: Changes,
+) -> Result<World, AllocError>
+    ensures { IfOk result (λ w. (m : MemoryContents) → spot_of m w ≡ moved_spot core side (contents_of m changes) (spot_of m world.now)) }
+{
+    let side = Rc::new(alloc, side)?;
+    let changes = Rc::new(alloc, changes)?;
+    if core == 0 {
+        Ok(World {
+            side0: side,
+            side1: world.side1.clone()?,
+            changes,
+        })
+    } else {
+        Ok(World {
+            side0: world.side0.clone()?,
+            side1: side,
+            changes,
+        })
+    }
 }
 
 impl Scene {
@@ -84,33 +112,27 @@ impl Scene {
         })
     }
 
-    /// The scene in which a core has come so far: with this core, what memory holds, what is known of the
-    /// core, the stale bytes, and the core that goes on alone. The only error is that a part of it has too
-    /// many owners.
+    /// The scene in which a core has come so far: with this world, what is known of the core, the stale
+    /// bytes, and the core that goes on alone. The only error is that a part of it has too many owners.
     ///
     /// Conditions: no stale byte is live, and the core is judged by the same as before.
     pub fn moved(
         &self,
         core: u8,
-        side: Rc<Side>,
-        changes: Rc<Changes>,
+        world: World,
         standing: Rc<Standing>,
         stale: Rc<Stale>,
         only: Option<u8>,
     ) -> Result<Scene, AllocError>
         requires apart { AreApart standing.value.frames (Some (other_of core self.now).frames) stale.value }
         requires same { standing.value.frames.bounds ≡ (own_of core self.now).frames.bounds }
-        ensures scene { IfOk result (λ s. (m : MemoryContents) → scene_of m s ≡ moved_scene m core self.now side.value changes.value standing.value stale.value only) }
+        ensures scene { IfOk result (λ s. (m : MemoryContents) → scene_of m s ≡ scene_with m core self.now (spot_of m world) standing.value stale.value only) }
         ensures same0 { IfOk result (λ s. bounds0 s ≡ bounds0 self.now) }
         ensures same1 { IfOk result (λ s. bounds1 s ≡ bounds1 self.now) }
     {
         if core == 0 {
             Ok(Scene {
-                world: World {
-                    side0: side,
-                    side1: self.world.side1.clone()?,
-                    changes,
-                },
+                world,
                 standing0: standing,
                 standing1: self.standing1.clone()?,
                 stale,
@@ -120,11 +142,7 @@ impl Scene {
             })
         } else {
             Ok(Scene {
-                world: World {
-                    side0: self.world.side0.clone()?,
-                    side1: side,
-                    changes,
-                },
+                world,
                 standing0: self.standing0.clone()?,
                 standing1: standing,
                 stale,

@@ -1,9 +1,12 @@
 //! How the search of what is judged opens.
 ghost use Rattle.std.specs.Prelude.{◌≡◌, ◌<◌, None, IfOk};
+ghost use Rattle.xt_trace.specs.Runs.{world_at_start};
 ghost use Rattle.xt_trace.specs.Validity.{IsValid};
 ghost use Rattle.xt_frames.specs.Judging.{opening_standing};
 ghost use Rattle.xt_frames.specs.Walked.{opening_walked};
-ghost use Rattle.xt_core.specs.Runs.{memory_of};
+ghost use Rattle.xt_core.specs.Runs.{memory_of, opening_of};
+ghost use Rattle.xt_outcomes.specs.KeptWorlds.{spot_of};
+ghost use Rattle.xt_outcomes.specs.Spots.{spot_in};
 ghost use Rattle.xt_judged.specs.Kept.{IsFirst, standing_of};
 ghost use Rattle.xt_judged.specs.Lives.{AreApart};
 ghost use Rattle.xt_judged.specs.OwnJudges.{opening_judge};
@@ -17,7 +20,7 @@ use std::alloc::{AllocError, Global};
 use std::rc::Rc;
 use xt_frames::{Frames, HandlerPhase};
 use xt_image::Image;
-use xt_outcomes::Desk;
+use xt_outcomes::{Desk, World};
 use xt_trace::Options;
 
 // What the judge knows of a core that opens at `pc`. The only error is running out of memory.
@@ -35,6 +38,38 @@ fn standing(alloc: Global, core: u8, pc: u32, options: &Options) -> Result<Stand
     })
 }
 
+// The same, to be shared. The only error is running out of memory.
+fn shared_standing(
+    alloc: Global,
+    core: u8,
+    pc: u32,
+    options: &Options,
+) -> Result<Rc<Standing>, AllocError>
+    requires core { core < 2 }
+    requires valid { IsValid options.now }
+    ensures known { IfOk result (λ s. standing_of s.value ≡ opening_standing (opening_walked core pc options.now).state) }
+    ensures bounds { IfOk result (λ s. s.value.frames.bounds ≡ (opening_walked core pc options.now).bounds) }
+{
+    let standing = standing(alloc, core, pc, options)?;
+    Ok(Rc::new(alloc, standing)?)
+}
+
+/// The world in which the runs of an image open. The only error is running out of memory.
+///
+/// Condition: the options are valid.
+pub fn open_world(
+    alloc: Global,
+    image: &Image,
+    options: &Options,
+    timed: bool,
+) -> Result<World, AllocError>
+    requires { IsValid options.now }
+    ensures { IfOk result (λ w. spot_of (memory_of image.now options.now) w ≡ spot_in timed (world_at_start (opening_of image.now options.now))) }
+{
+    let mut desk = Desk::new(alloc)?;
+    xt_outcomes::open(alloc, image, options, &mut desk, timed)
+}
+
 /// The scene in which the runs of an image open. The only error is running out of memory.
 ///
 /// Condition: the options are valid.
@@ -47,15 +82,15 @@ pub fn open(
     requires { IsValid options.now }
     ensures { IfOk result (IsFirst image.now options.now timed) }
 {
-    let mut desk = Desk::new(alloc)?;
-    let world = xt_outcomes::open(alloc, image, options, &mut desk, timed)?;
-    let standing0 = standing(alloc, 0, image.entry, options)?;
-    let standing1 = standing(alloc, 1, options.entry1, options)?;
+    let world = open_world(alloc, image, options, timed)?;
+    let standing0 = shared_standing(alloc, 0, image.entry, options)?;
+    let standing1 = shared_standing(alloc, 1, options.entry1, options)?;
+    let stale = Rc::new(alloc, Stale::none(alloc))?;
     Ok(Scene {
         world,
-        standing0: Rc::new(alloc, standing0)?,
-        standing1: Rc::new(alloc, standing1)?,
-        stale: Rc::new(alloc, Stale::none(alloc))?,
+        standing0,
+        standing1,
+        stale,
         only: None,
         breach: None,
         turns: 0,
@@ -76,6 +111,22 @@ fn judge(alloc: Global, core: u8, pc: u32, options: &Options) -> Result<OwnJudge
     })
 }
 
+// The same, to be shared. The only error is running out of memory.
+fn shared_judge(
+    alloc: Global,
+    core: u8,
+    pc: u32,
+    options: &Options,
+) -> Result<Rc<OwnJudge>, AllocError>
+    requires core { core < 2 }
+    requires valid { IsValid options.now }
+    ensures judge { IfOk result (λ j. judge_of j.value ≡ opening_judge (opening_walked core pc options.now)) }
+    ensures apart { IfOk result (λ j. AreApart j.value.standing.frames None j.value.stale) }
+{
+    let judge = judge(alloc, core, pc, options)?;
+    Ok(Rc::new(alloc, judge)?)
+}
+
 /// Both cores as the runs of an image open, each with its judge. The only error is running out of memory.
 ///
 /// Condition: the options are valid.
@@ -88,14 +139,13 @@ pub fn open_watched(
     requires { IsValid options.now }
     ensures { IfOk result (λ w. watched_of (memory_of image.now options.now) w ≡ first_watched image.now options.now timed) }
 {
-    let mut desk = Desk::new(alloc)?;
-    let world = xt_outcomes::open(alloc, image, options, &mut desk, timed)?;
-    let judge0 = judge(alloc, 0, image.entry, options)?;
-    let judge1 = judge(alloc, 1, options.entry1, options)?;
+    let world = open_world(alloc, image, options, timed)?;
+    let judge0 = shared_judge(alloc, 0, image.entry, options)?;
+    let judge1 = shared_judge(alloc, 1, options.entry1, options)?;
     Ok(Watched {
         world,
-        judge0: Rc::new(alloc, judge0)?,
-        judge1: Rc::new(alloc, judge1)?,
+        judge0,
+        judge1,
         turns: 0,
     })
 }

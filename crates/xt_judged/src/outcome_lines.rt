@@ -4,6 +4,7 @@ ghost use Rattle.std.specs.List.{zip};
 ghost use Rattle.xt_report.specs.Reports.{stop_text, uart_lines};
 ghost use Rattle.xt_judged.specs.OutcomesText.{core_line, order_line, outcome_text, word_line};
 
+use crate::lines::append;
 use crate::order_rows::order_text;
 use std::alloc::{AllocError, Global};
 use std::fmt::Write;
@@ -50,7 +51,7 @@ fn push_words(
 {
     for (address, value) in addresses.iter().zip(values) {
         let line = word_line(alloc, *address, *value)?;
-        out.extend_from_slice(line.as_bytes())?;
+        append(out, line)?;
     }
     Ok(())
 }
@@ -61,7 +62,7 @@ fn push_sent(alloc: Global, out: &mut Vec<u8>, sent: &[u8]) -> Result<(), AllocE
 {
     let count = sent.len();
     let head = format!(in alloc; "uart {count}\n")?;
-    out.extend_from_slice(head.as_bytes())?;
+    append(out, head)?;
     out.extend_from_slice(sent)?;
     out.push(b'\n')?;
     Ok(())
@@ -85,14 +86,14 @@ pub fn push_outcome(
     ensures { OnOk result (out.new.items ≡ out.old.items ++ outcome_text addresses.now found.now) }
 {
     let outcome = &found.outcome;
-    let core0 = core_line(alloc, 0, outcome.stop0(), outcome.pc0())?;
-    let core1 = core_line(alloc, 1, outcome.stop1(), outcome.pc1())?;
-    let order = order_line(alloc, found.order.as_slice())?;
     out.extend_from_slice(b"outcome ")?;
     push_sent(alloc, out, outcome.sent())?;
-    out.extend_from_slice(core0.as_bytes())?;
-    out.extend_from_slice(core1.as_bytes())?;
+    let core0 = core_line(alloc, 0, outcome.stop0(), outcome.pc0())?;
+    append(out, core0)?;
+    let core1 = core_line(alloc, 1, outcome.stop1(), outcome.pc1())?;
+    append(out, core1)?;
     push_words(alloc, out, addresses, outcome.words())?;
-    out.extend_from_slice(order.as_bytes())?;
+    let order = order_line(alloc, found.order.as_slice())?;
+    append(out, order)?;
     Ok(())
 }

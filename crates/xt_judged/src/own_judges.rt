@@ -9,7 +9,7 @@ ghost use Rattle.xt_judged.specs.OwnJudges.{is_over, judge_past, own_in, range_o
 ghost use Rattle.xt_judged.specs.Stales.{renewed};
 ghost use Rattle.xt_judged.specs.WatchedKept.{judge_in, judge_of, watched_of};
 
-use crate::moved::{is_same_world, same_world};
+use crate::moved::{is_same_world, moved_world, same_world};
 use crate::record::{Known, see_record};
 use crate::scene::{Shown, Standing};
 use crate::stale::Stale;
@@ -18,7 +18,7 @@ use std::alloc::{AllocError, Global};
 use std::rc::Rc;
 use xt_changes::Changes;
 use xt_map::Constants;
-use xt_outcomes::{Part, Side, World};
+use xt_outcomes::{Part, Side};
 use xt_trace::{Stack, StepRecord};
 
 impl OwnJudge {
@@ -83,33 +83,6 @@ impl OwnJudge {
                 self.with_fate(alloc, Fate::Broke(Shown { core, pc, kind }))
             }
         }
-    }
-}
-
-// The world in which a core has come so far. The only error is running out of memory.
-fn moved_world(
-    alloc: Global,
-    world: &World,
-    core: u8,
-    side: Side,
-    changes: Changes,
-) -> Result<World, AllocError>
-    ensures { IfOk result (λ w. (m : MemoryContents) → spot_of m w ≡ moved_spot core side (contents_of m changes) (spot_of m world.now)) }
-{
-    let side = Rc::new(alloc, side)?;
-    let changes = Rc::new(alloc, changes)?;
-    if core == 0 {
-        Ok(World {
-            side0: side,
-            side1: world.side1.clone()?,
-            changes,
-        })
-    } else {
-        Ok(World {
-            side0: world.side0.clone()?,
-            side1: side,
-            changes,
-        })
     }
 }
 

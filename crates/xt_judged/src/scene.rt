@@ -9,7 +9,6 @@ use xt_frames::{BreachKind, HandlerPhase, Snapshot};
 use xt_outcomes::{Part, World};
 
 /// What the judge knows of one core: its frames, and where it stands among handler steps before its next record.
-#[derive(Drop)]
 pub struct Standing {
     pub frames: Snapshot,
     pub phase: HandlerPhase,
@@ -17,6 +16,16 @@ pub struct Standing {
     ghost whole: { length frames.state.control.special ≡ 256 },
     // Its records are counted from the next one on.
     ghost first: { frames.next ≡ 0 },
+}
+
+// A `drop` of its own is one call at each place where a value is dropped.
+impl Drop for Standing {
+    fn drop(self) {
+        let Standing {
+            frames: _,
+            phase: _,
+        } = self;
+    }
 }
 
 /// A breach that a turn of this core at this address showed.
@@ -29,7 +38,6 @@ pub struct Shown {
 
 /// Two cores between two turns, what memory holds, and what the judge knows of them. Scenes share what is
 /// equal in them.
-#[derive(Drop)]
 pub struct Scene {
     pub world: World,
     pub standing0: Rc<Standing>,
@@ -44,6 +52,20 @@ pub struct Scene {
     pub turns: u32,
     // No stale byte is live.
     ghost apart: { AreApart standing0.value.frames (Some standing1.value.frames) stale.value },
+}
+
+impl Drop for Scene {
+    fn drop(self) {
+        let Scene {
+            world: _,
+            standing0: _,
+            standing1: _,
+            stale: _,
+            only: _,
+            breach: _,
+            turns: _,
+        } = self;
+    }
 }
 
 // Whether both phases are the same.

@@ -8,6 +8,7 @@ ghost use Rattle.xt_judged.specs.OutcomesText.{IsAnswersText, all_text, answers_
 
 use crate::frame_lines::push_frames;
 use crate::frames::{Frames, judge_orders};
+use crate::lines::append;
 use crate::order_rows::order_text;
 use crate::outcome_lines::push_outcome;
 use crate::race_lines::push_turns;
@@ -156,16 +157,16 @@ pub fn answers_text(
     let mut out = Vec::new(alloc);
     push_outcomes(alloc, &mut out, addresses, answers.found.as_slice())?;
     let count = count_line(alloc, answers.found.len())?;
+    append(&mut out, count)?;
     let whole = is_all(answers.ended);
     let stuck = stuck_line(alloc, whole, &answers.stuck)?;
+    append(&mut out, stuck)?;
     let race = race_line(alloc, whole, &answers.race)?;
-    let end = end_line(alloc, frames, answers.ended)?;
-    out.extend_from_slice(count.as_bytes())?;
-    out.extend_from_slice(stuck.as_bytes())?;
-    out.extend_from_slice(race.as_bytes())?;
+    append(&mut out, race)?;
     push_turns(alloc, &mut out, code, &answers.race)?;
     push_frames(alloc, &mut out, frames)?;
-    out.extend_from_slice(end.as_bytes())?;
+    let end = end_line(alloc, frames, answers.ended)?;
+    append(&mut out, end)?;
     Ok(Text::new(out))
 }
 

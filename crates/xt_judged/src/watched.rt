@@ -23,7 +23,6 @@ pub enum Fate {
 }
 
 /// The judge of one core.
-#[derive(Drop)]
 pub struct OwnJudge {
     pub standing: Standing,
     /// The bytes that this core's own returns left stale.
@@ -31,9 +30,19 @@ pub struct OwnJudge {
     pub fate: Fate,
 }
 
+// A `drop` of its own is one call at each place where a value is dropped.
+impl Drop for OwnJudge {
+    fn drop(self) {
+        let OwnJudge {
+            standing: _,
+            stale: _,
+            fate: _,
+        } = self;
+    }
+}
+
 /// Two cores between two turns, what memory holds, and the judge of each core. They share what is equal in
 /// them.
-#[derive(Drop)]
 pub struct Watched {
     pub world: World,
     pub judge0: Rc<OwnJudge>,
@@ -43,6 +52,17 @@ pub struct Watched {
     // No byte that is stale for a core is live for it.
     ghost apart0: { AreApart judge0.value.standing.frames None judge0.value.stale },
     ghost apart1: { AreApart judge1.value.standing.frames None judge1.value.stale },
+}
+
+impl Drop for Watched {
+    fn drop(self) {
+        let Watched {
+            world: _,
+            judge0: _,
+            judge1: _,
+            turns: _,
+        } = self;
+    }
 }
 
 /// Whether an access has a byte in a stack range.

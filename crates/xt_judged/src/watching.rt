@@ -17,7 +17,6 @@ use xt_trace::Stack;
 
 /// The machine of an image, whose cores have a judge each, and what is taken for granted of the words of
 /// memory.
-#[derive(Drop)]
 pub struct Watching<'a> {
     pub timed: Timed<'a>,
     pub places: Places,
@@ -26,6 +25,20 @@ pub struct Watching<'a> {
     /// How many turns that meet nothing are made at once at most, after a turn.
     pub most_local: u16,
     pub alloc: Global,
+}
+
+// A `drop` of its own is one call at each place where a value is dropped.
+impl Drop for Watching<'_> {
+    fn drop(self) {
+        let Watching {
+            timed: _,
+            places: _,
+            stack0: _,
+            stack1: _,
+            most_local: _,
+            alloc: _,
+        } = self;
+    }
 }
 
 impl<'a> Watching<'a> {
@@ -102,7 +115,7 @@ impl<'a> Watching<'a> {
     // A turn of a core, and then its turns that meet nothing. The only error is running out of memory.
     //
     // Condition: the core is 0 or 1.
-    fn run(&self, desk: &mut Desk, watched: &Watched, core: u8) -> Result<Watched, AllocError>
+    fn run(&self, watched: &Watched, core: u8) -> Result<Watched, AllocError>
         requires { core < 2 }
         ensures { let t = self.now.timed in let code = constant_byte t.code in
             IfOk result (λ w. watched_of t.opening.contents w ≡ watched_run code (range_of self.now.stack0) (range_of self.now.stack1) t.timed self.now.places.list.items self.now.most_local core (watched_of t.opening.contents watched.now)) }
@@ -111,12 +124,14 @@ impl<'a> Watching<'a> {
         let mut turns = 1;
         for made in 0..self.most_local {
             if !self.is_local(&next, core) {
-                return desk.watched(self.alloc, next, turns);
+                next.turns = turns;
+                return Ok(next);
             }
             next = self.turn(&next, core)?;
             turns += 1;
         }
-        desk.watched(self.alloc, next, turns)
+        next.turns = turns;
+        Ok(next)
     }
 
     /// Whether both judges go on, and the places tell of both next turns.
@@ -162,7 +177,8 @@ impl<'a> Machine for Watching<'a> {
         if self.bars(watched, core) {
             return Ok(None);
         }
-        let next = self.run(desk, watched, core)?;
+        let mut next = self.run(watched, core)?;
+        desk.keep_watched(&mut next)?;
         Ok(Some(next))
     }
 

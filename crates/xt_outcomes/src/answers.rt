@@ -33,7 +33,6 @@ pub enum Ending {
 }
 
 /// What was found of the orders of an image's turns.
-#[derive(Drop)]
 pub struct Answers {
     /// The outcomes in rising order.
     pub found: Vec<Found>,
@@ -43,6 +42,18 @@ pub struct Answers {
     pub stuck: Option<Vec<u8>>,
     /// A race, if one was found.
     pub race: Option<NextRace>,
+}
+
+// A `drop` of its own is one call at each place where a value is dropped.
+impl Drop for Answers {
+    fn drop(self) {
+        let Answers {
+            found: _,
+            ended: _,
+            stuck: _,
+            race: _,
+        } = self;
+    }
 }
 
 // An order after which the cores never both end; it is looked for only where the search came to its

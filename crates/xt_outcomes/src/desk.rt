@@ -8,13 +8,25 @@ use std::alloc::{AllocError, Global};
 use xt_map::Access;
 
 /// What worlds share, and what was seen of the turns that were made.
-#[derive(Drop)]
 pub struct Desk {
     pub(crate) shared: Shared,
     seen: Seen,
     paths: Paths,
     has_new_place: bool,
     has_new_path: bool,
+}
+
+// A `drop` of its own is one call at each place where a value is dropped.
+impl Drop for Desk {
+    fn drop(self) {
+        let Desk {
+            shared: _,
+            seen: _,
+            paths: _,
+            has_new_place: _,
+            has_new_path: _,
+        } = self;
+    }
 }
 
 impl Desk {

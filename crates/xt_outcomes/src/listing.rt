@@ -21,11 +21,20 @@ use xt_search::Machine;
 use xt_trace::Options;
 
 /// An outcome, and an order that leads there.
-#[derive(Drop)]
 pub struct Found {
     pub outcome: Outcome,
     /// The cores that make the turns, one by one.
     pub order: Vec<u8>,
+}
+
+// A `drop` of its own is one call at each place where a value is dropped.
+impl Drop for Found {
+    fn drop(self) {
+        let Found {
+            outcome: _,
+            order: _,
+        } = self;
+    }
 }
 
 // How many are before an outcome.

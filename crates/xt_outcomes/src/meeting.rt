@@ -10,9 +10,10 @@ use crate::answers::Ending;
 use crate::dead::Dead;
 use crate::desk::Desk;
 use crate::found::Search;
-use crate::opening::open;
+use crate::opening::{open, open_for};
 use crate::places::Places;
 use crate::timed::Timed;
+use crate::world::World;
 use std::alloc::{AllocError, Global};
 use xt_image::Image;
 use xt_search::{has_all, search};
@@ -56,8 +57,7 @@ pub fn search_by<'a>(
     ensures ended { IfOk result (λ s. IfNone s.graph.barred (IsWhole s.graph ⊎ (most ≤ length s.graph.kept.items))) }
 {
     let machine = Timed::make(alloc, image, options, timed, places, dead, MOST_LOCAL)?;
-    let first = open(alloc, image, options, desk, timed)?;
-    let opening = machine.forgetting(desk, &first)?;
+    let opening = open_for(alloc, &machine, image, options, desk)?;
     let graph = search(alloc, &machine, desk, opening, most)?;
     Ok(Search { machine, graph })
 }
@@ -171,6 +171,13 @@ fn is_last(ended: Ending, desk: &Desk) -> bool {
 
 // Notes turns of three orders: of core 0 first and then core 1, the other way round, and by turns. The only
 // error is running out of memory.
+fn watch_orders(machine: &Timed, desk: &mut Desk, opening: &World) -> Result<(), AllocError> {
+    machine.watch(desk, opening, 0, 1, MOST_WATCHED)?;
+    machine.watch(desk, opening, 1, 1, MOST_WATCHED)?;
+    machine.watch(desk, opening, 0, MOST_WATCHED, 1)
+}
+
+// Notes turns of three orders of an image. The only error is running out of memory.
 fn watch_both(
     alloc: Global,
     image: &Image,
@@ -182,13 +189,50 @@ fn watch_both(
     requires fits { FitsImage image.now }
     requires placed { IsPlaced image.now.segments }
 {
+    let machine = Timed::plain(alloc, image, options, timed)?;
+    let opening = open(alloc, image, options, desk, timed)?;
+    watch_orders(&machine, desk, &opening)
+}
+
+// Does what `search_orders` says, at a desk that the caller owns. So this one drops no desk.
+fn search_at<'a>(
+    alloc: Global,
+    image: &'a Image,
+    options: &Options,
+    desk: &mut Desk,
+    timed: bool,
+    most: u32,
+) -> Result<(Search<'a>, Ending), AllocError>
+    requires valid { IsValid options.now }
+    requires fits { FitsImage image.now }
+    requires placed { IsPlaced image.now.segments }
+    ensures search { IfOk result (λ r. IsSearch image.now options.now r.0) }
+    ensures timed { IfOk result (λ r. r.0.machine.timed ≡ timed) }
+    ensures ended { IfOk result (λ r. HasEnded image.now options.now most r.0 r.1) }
+{
+    watch_both(alloc, image, options, timed, desk)?;
+    let mut limit = most.min(FIRST);
+    for number in 0..MOST_SEARCHES {
+        desk.clear(alloc)?;
+        let places = desk.places(alloc)?;
+        let dead = if number < MOST_WITH_DEAD {
+            desk.dead(alloc)?
+        } else {
+            Dead::none(alloc)
+        };
+        let search = search_by(alloc, image, options, desk, timed, places, dead, limit)?;
+        if let Some(ended) = ended_by(image, options, &search, desk, most)? {
+            if is_last(ended, desk) {
+                return Ok((search, ended));
+            }
+        }
+        limit = next_limit(limit, &search, desk.is_new(), most);
+    }
     let places = Places::met(alloc);
     let dead = Dead::none(alloc);
-    let machine = Timed::make(alloc, image, options, timed, places, dead, MOST_LOCAL)?;
-    let opening = open(alloc, image, options, desk, timed)?;
-    machine.watch(desk, &opening, 0, 1, MOST_WATCHED)?;
-    machine.watch(desk, &opening, 1, 1, MOST_WATCHED)?;
-    machine.watch(desk, &opening, 0, MOST_WATCHED, 1)
+    let last = search_by(alloc, image, options, desk, timed, places, dead, most)?;
+    let ended = ended_at_last(image, options, &last, most);
+    Ok((last, ended))
 }
 
 /// Searches the worlds after all orders, and keeps at most so many: timed, with the turns that the
@@ -210,27 +254,5 @@ pub fn search_orders<'a>(
     ensures ended { IfOk result (λ r. HasEnded image.now options.now most r.0 r.1) }
 {
     let mut desk = Desk::new(alloc)?;
-    watch_both(alloc, image, options, timed, &mut desk)?;
-    let mut limit = most.min(FIRST);
-    for number in 0..MOST_SEARCHES {
-        let places = desk.places(alloc)?;
-        let dead = if number < MOST_WITH_DEAD {
-            desk.dead(alloc)?
-        } else {
-            Dead::none(alloc)
-        };
-        desk.clear(alloc)?;
-        let search = search_by(alloc, image, options, &mut desk, timed, places, dead, limit)?;
-        if let Some(ended) = ended_by(image, options, &search, &mut desk, most)? {
-            if is_last(ended, &desk) {
-                return Ok((search, ended));
-            }
-        }
-        limit = next_limit(limit, &search, desk.is_new(), most);
-    }
-    let places = Places::met(alloc);
-    let dead = Dead::none(alloc);
-    let last = search_by(alloc, image, options, &mut desk, timed, places, dead, most)?;
-    let ended = ended_at_last(image, options, &last, most);
-    Ok((last, ended))
+    search_at(alloc, image, options, &mut desk, timed, most)
 }

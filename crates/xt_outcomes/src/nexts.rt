@@ -20,10 +20,8 @@ ghost use Rattle.xt_outcomes.specs.Orders.{with_both, world_after};
 ghost use Rattle.xt_outcomes.specs.SpotRaces.{next_of};
 ghost use Rattle.xt_outcomes.specs.Spots.{spot_after, spot_in};
 
-use crate::dead::Dead;
 use crate::desk::Desk;
 use crate::opening::{open, open_with};
-use crate::places::Places;
 use crate::sides::Side;
 use crate::timed::Timed;
 use crate::world::World;
@@ -134,23 +132,23 @@ fn timed_turns(
     alloc: Global,
     image: &Image,
     options: &Options,
+    machine: &Timed,
+    desk: &mut Desk,
     order: &[u8],
     accesses: (Access, Access),
 ) -> Result<(NextTurn, NextTurn), AllocError>
     requires order { IsOrder order.now }
     requires valid { IsValid options.now }
-    requires fits { FitsImage image.now }
-    requires placed { IsPlaced image.now.segments }
+    requires timed { machine.now.timed ≡ true }
+    requires code { machine.now.code ≡ image.now.segments }
+    requires memory { machine.now.opening.contents ≡ memory_of image.now options.now }
     requires race { IsNextRace (code_of image.now) true (world_after (processor (code_of image.now)) true (opening_of image.now options.now) order.now) accesses.0 accesses.1 }
     ensures { IfOk result (λ r. AreNextTurns (code_of image.now) (world_after (processor (code_of image.now)) true (opening_of image.now options.now) order.now) r.0 r.1) }
 {
-    let places = Places::met(alloc);
-    let machine = Timed::make(alloc, image, options, true, places, Dead::none(alloc), 0)?;
-    let mut desk = Desk::new(alloc)?;
-    let opening = open(alloc, image, options, &mut desk, true)?;
+    let opening = open(alloc, image, options, desk, true)?;
     let turns = (options.turns0, options.turns1);
     turns_from(
-        image, options, &machine, &mut desk, opening, turns, order, accesses,
+        image, options, machine, desk, opening, turns, order, accesses,
     )
 }
 
@@ -160,26 +158,26 @@ fn untimed_turns(
     alloc: Global,
     image: &Image,
     options: &Options,
+    machine: &Timed,
+    desk: &mut Desk,
     order: &[u8],
     accesses: (Access, Access),
 ) -> Result<(NextTurn, NextTurn), AllocError>
     requires order { IsOrder order.now }
     requires valid { IsValid options.now }
-    requires fits { FitsImage image.now }
-    requires placed { IsPlaced image.now.segments }
+    requires timed { machine.now.timed ≡ true }
+    requires code { machine.now.code ≡ image.now.segments }
+    requires memory { machine.now.opening.contents ≡ memory_of image.now options.now }
     requires race { IsNextRace (code_of image.now) false (world_after (processor (code_of image.now)) false (opening_of image.now options.now) order.now) accesses.0 accesses.1 }
     ensures { IfOk result (λ r. AreNextTurns (code_of image.now) (world_after (processor (code_of image.now)) false (opening_of image.now options.now) order.now) r.0 r.1) }
 {
-    let places = Places::met(alloc);
-    let machine = Timed::make(alloc, image, options, true, places, Dead::none(alloc), 0)?;
-    let mut desk = Desk::new(alloc)?;
     let more = one_more(order.len())?;
-    let opening = open_with(alloc, image, options, &mut desk, more)?;
+    let opening = open_with(alloc, image, options, desk, more)?;
     let turns = turns_from(
         image,
         options,
-        &machine,
-        &mut desk,
+        machine,
+        desk,
         opening,
         (more, more),
         order,
@@ -208,9 +206,11 @@ pub fn next_turns(
     requires race { IsNextRace (code_of image.now) timed (world_after (processor (code_of image.now)) timed (opening_of image.now options.now) order.now) accesses.0 accesses.1 }
     ensures { IfOk result (λ r. AreNextTurns (code_of image.now) (world_after (processor (code_of image.now)) timed (opening_of image.now options.now) order.now) r.0 r.1) }
 {
+    let machine = Timed::plain(alloc, image, options, true)?;
+    let mut desk = Desk::new(alloc)?;
     if timed {
-        timed_turns(alloc, image, options, order, accesses)
+        timed_turns(alloc, image, options, &machine, &mut desk, order, accesses)
     } else {
-        untimed_turns(alloc, image, options, order, accesses)
+        untimed_turns(alloc, image, options, &machine, &mut desk, order, accesses)
     }
 }

@@ -18,7 +18,6 @@ use xt_changes::Changes;
 use xt_trace::Stop;
 
 /// How both cores ended, what was sent, and the values of the chosen words. Contracts see these.
-#[derive(Drop)]
 pub struct Outcome {
     /// The bytes that UART0 has sent.
     pub(crate) sent: Vec<u8>,
@@ -29,6 +28,20 @@ pub struct Outcome {
     /// The last program counter of core 1.
     pub(crate) pc1: u32,
     pub(crate) words: Vec<u32>,
+}
+
+// A `drop` of its own is one call at each place where a value is dropped.
+impl Drop for Outcome {
+    fn drop(self) {
+        let Outcome {
+            sent: _,
+            stop0: _,
+            pc0: _,
+            stop1: _,
+            pc1: _,
+            words: _,
+        } = self;
+    }
 }
 
 impl Model for Outcome {

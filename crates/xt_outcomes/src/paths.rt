@@ -46,10 +46,19 @@ struct Edge {
 }
 
 /// The program counters to which turns led, and what these turns read and wrote.
-#[derive(Drop)]
 pub struct Paths {
     points: Vec<Point>,
     edges: Vec<Edge>,
+}
+
+// A `drop` of its own is one call at each place where a value is dropped.
+impl Drop for Paths {
+    fn drop(self) {
+        let Paths {
+            points: _,
+            edges: _,
+        } = self;
+    }
 }
 
 // The place of a program counter.

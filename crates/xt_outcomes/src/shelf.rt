@@ -21,11 +21,21 @@ pub trait Part {
 /// and of each value the one of the same chain that came before it. Each number is one more than that of a
 /// value, and 0 says that there is none. Nothing is claimed of the numbers, since each value that they lead
 /// to is compared.
-#[derive(Drop)]
 pub struct Shelf<T: Drop> {
     parts: Vec<Rc<T>>,
     last: Vec<u32>,
     before: Vec<u32>,
+}
+
+// A `drop` of its own is one call at each place where a value is dropped.
+impl<T: Drop> Drop for Shelf<T> {
+    fn drop(self) {
+        let Shelf {
+            parts: _,
+            last: _,
+            before: _,
+        } = self;
+    }
 }
 
 // The chain of a mark: the high bits of a product, which depend on all bits of the mark.
@@ -73,6 +83,20 @@ impl<T: Part + Drop> Shelf<T> {
         Ok(None)
     }
 
+    // Keeps a value from now on. The only error is running out of memory.
+    fn add(&mut self, part: &Rc<T>, chain: usize) -> Result<(), AllocError> {
+        let count = self.parts.len();
+        if count >= 0xFFFF_FFFF {
+            return Err(AllocError);
+        }
+        self.parts.push(part.clone()?)?;
+        self.before.push(number_at(&self.last, chain))?;
+        if let Some(last) = self.last.get_mut(chain) {
+            *last = count as u32 + 1;
+        }
+        Ok(())
+    }
+
     /// The kept value that is equal to this one; if there is none, this one is kept from now on. The only
     /// error is running out of memory.
     pub fn shared(&mut self, alloc: Global, part: T) -> Result<Rc<T>, AllocError>
@@ -82,16 +106,26 @@ impl<T: Part + Drop> Shelf<T> {
         if let Some(kept) = self.find(&part, chain)? {
             return Ok(kept);
         }
-        let count = self.parts.len();
-        if count >= 0xFFFF_FFFF {
-            return Err(AllocError);
-        }
         let shared = Rc::new(alloc, part)?;
-        self.parts.push(shared.clone()?)?;
-        self.before.push(number_at(&self.last, chain))?;
-        if let Some(last) = self.last.get_mut(chain) {
-            *last = count as u32 + 1;
-        }
+        self.add(&shared, chain)?;
         Ok(shared)
+    }
+
+    /// Puts the kept value that is equal to this one in its place; if there is none, this one is kept from now
+    /// on. One that has another owner stays as it is. The only error is running out of memory.
+    pub fn keep(&mut self, part: &mut Rc<T>) -> Result<(), AllocError>
+        ensures { part.new.value ≡ part.old.value }
+    {
+        if Rc::strong_count(part) > 1 {
+            return Ok(());
+        }
+        let shared: &Rc<T> = part;
+        let value = shared.as_ref();
+        let chain = chain_of(value.mark());
+        if let Some(kept) = self.find(value, chain)? {
+            *part = kept;
+            return Ok(());
+        }
+        self.add(part, chain)
     }
 }

@@ -27,7 +27,6 @@ use xt_window::Windows;
 /// worlds, which turns meet nothing of the other core, which registers are dead, and how many of those turns
 /// are made at once at most. A search has to end before a turn that uses time, if time is no part of the
 /// worlds, and before one that does not fit the dead registers.
-#[derive(Drop)]
 pub struct Timed<'a> {
     pub code: Constants<'a>,
     pub opening: Memory,
@@ -38,6 +37,21 @@ pub struct Timed<'a> {
     alloc: Global,
     ghost sizes: { HasSizes opening.contents },
     ghost bytes: { AreBytes (constant_byte code) },
+}
+
+// A `drop` of its own is one call at each place where a value is dropped.
+impl Drop for Timed<'_> {
+    fn drop(self) {
+        let Timed {
+            code: _,
+            opening: _,
+            timed: _,
+            places: _,
+            dead: _,
+            most_local: _,
+            alloc: _,
+        } = self;
+    }
 }
 
 /// A world, and how many turns of a core led to it.
@@ -87,6 +101,28 @@ impl<'a> Timed<'a> {
             most_local,
             alloc,
         })
+    }
+
+    /// The machine of an image, where both cores may come to each place, no register is dead, and each turn
+    /// is made alone. The only error is running out of memory.
+    ///
+    /// Conditions: the options are valid, and the image's segments lie in one region each and share no
+    /// byte, as those of every image that was read.
+    pub fn plain(
+        alloc: Global,
+        image: &'a Image,
+        options: &Options,
+        timed: bool,
+    ) -> Result<Timed<'a>, AllocError>
+        requires valid { IsValid options.now }
+        requires fits { FitsImage image.now }
+        requires placed { IsPlaced image.now.segments }
+        ensures code { IfOk result (λ t. t.code ≡ image.now.segments) }
+        ensures opening { IfOk result (λ t. t.opening.contents ≡ memory_of image.now options.now) }
+        ensures timed { IfOk result (λ t. t.timed ≡ timed) }
+    {
+        let places = Places::met(alloc);
+        Timed::make(alloc, image, options, timed, places, Dead::none(alloc), 0)
     }
 }
 

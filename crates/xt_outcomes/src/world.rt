@@ -13,11 +13,21 @@ use std::rc::Rc;
 use xt_changes::Changes;
 
 /// Two cores between two turns, and what memory holds. Worlds share what is equal in them.
-#[derive(Drop)]
 pub struct World {
     pub side0: Rc<Side>,
     pub side1: Rc<Side>,
     pub changes: Rc<Changes>,
+}
+
+// A `drop` of its own is one call at each place where a value is dropped.
+impl Drop for World {
+    fn drop(self) {
+        let World {
+            side0: _,
+            side1: _,
+            changes: _,
+        } = self;
+    }
 }
 
 impl Part for Side {
@@ -68,10 +78,19 @@ impl World {
 }
 
 /// What worlds share.
-#[derive(Drop)]
 pub struct Shared {
     sides: Shelf<Side>,
     changes: Shelf<Changes>,
+}
+
+// A `drop` of its own is one call at each place where a value is dropped.
+impl Drop for Shared {
+    fn drop(self) {
+        let Shared {
+            sides: _,
+            changes: _,
+        } = self;
+    }
 }
 
 impl Shared {
@@ -81,6 +100,15 @@ impl Shared {
             sides: Shelf::new(alloc)?,
             changes: Shelf::new(alloc)?,
         })
+    }
+
+    /// Puts parts that are shared in place of those of a world. The only error is running out of memory.
+    pub fn keep(&mut self, world: &mut World) -> Result<(), AllocError>
+        ensures { (m : MemoryContents) → spot_of m world.new ≡ spot_of m world.old }
+    {
+        self.sides.keep(&mut world.side0)?;
+        self.sides.keep(&mut world.side1)?;
+        self.changes.keep(&mut world.changes)
     }
 
     /// The world of these parts. The only error is running out of memory.

@@ -27,10 +27,21 @@ pub struct Barred {
 
 /// The worlds that a search keeps, of so many of the first ones their next worlds, and the turn before
 /// which the search had to end, if there was one.
-#[derive(Drop)]
 pub struct Graph<W> {
     pub kept: Vec<Kept<W>>,
     pub nexts: Vec<Nexts>,
     pub table: Table,
     pub barred: Option<Barred>,
+}
+
+// A `drop` of its own is one call at each place where a value is dropped.
+impl<W: Drop> Drop for Graph<W> {
+    fn drop(self) {
+        let Graph {
+            kept: _,
+            nexts: _,
+            table: _,
+            barred: _,
+        } = self;
+    }
 }

@@ -13,10 +13,16 @@ const CHAINS: usize = 1_048_576;
 /// Kept worlds by their digests: of each chain the world that was added last, and of each world the
 /// one of the same chain that was added before it. Each number is one more than that of a world, and
 /// 0 says that there is none.
-#[derive(Drop)]
 pub struct Table {
     last: Vec<u32>,
     before: Vec<u32>,
+}
+
+// A `drop` of its own is one call at each place where a value is dropped.
+impl Drop for Table {
+    fn drop(self) {
+        let Table { last: _, before: _ } = self;
+    }
 }
 
 // The chain of a digest: the high bits of a product, which depend on all bits of the digest.

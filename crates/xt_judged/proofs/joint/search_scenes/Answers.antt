@@ -3,15 +3,16 @@ use Rattle.xt_core.specs.Runs.{memory_of}
 use Rattle.xt_outcomes.proofs.CodeBytes.{code_bytes}
 use Rattle.xt_judged.specs.Kept.{Leads}
 use Rattle.xt_judged.proofs.Every.{carried}
+use Rattle.xt_judged.proofs.Trees.{tree_of}
 use Rattle.xt_judged.proofs.joint.search_scenes.Goals as goal
 
-pub returns : goal.returns
-returns c =
-    let t = c.in_ok-make.field-0 in
+pub returns-clause-search : goal.returns-clause-search
+returns-clause-search c =
+    let t = c.in_ok-plain.field-0 in
     let g = c.in_ok-graph.graph in
     let image = c.args.image.now in
     let m = memory_of image c.args.options.now in
-    let made = c.in_ok-make.ensures in
+    let made = c.in_ok-plain.ensures in
     record {
       bytes = code_bytes image c.requires.fits;
       code = made.code;
@@ -20,3 +21,6 @@ returns c =
       graph = carried (λ k b n. IsGraph (Leads k b 4096 n) g) t.code image.segments t.timed c.args.timed t.opening.contents m made.code made.timed made.opening c.in_ok-graph.ensures.graph;
       first = (c.in_ok-opening.opening, c.in_ok-graph.ensures.opens, c.in_ok-opening.ensures);
     }
+
+pub returns-clause-tree : goal.returns-clause-tree
+returns-clause-tree c = tree_of _ c.in_ok-graph.graph c.in_ok-graph.ensures.graph

@@ -14,7 +14,7 @@ returns c =
     six_parts c.args.out.now.items _ _ _ _ _ _ _ _ _ _ _ _
     c.in_ok-extend_from_slice.ensures.items
     (c.in_ok-push_sent.ensures ∙ ap (λ (l : List ℕ). c.extend_from_slice.new.self.items ++ uart_lines l) c.sent.ensures)
-    (c.in_ok-extend_from_slice-2.ensures.items ∙ ap (λ (l : List ℕ). c.push_sent.new.out.items ++ l) (c.as_bytes.ensures.value ∙ c.in_ok-core0.ensures ∙ line 0 _ _ _ _ c.stop0.ensures c.pc0.ensures))
-    (c.in_ok-extend_from_slice-3.ensures.items ∙ ap (λ (l : List ℕ). c.extend_from_slice-2.new.self.items ++ l) (c.as_bytes-2.ensures.value ∙ c.in_ok-core1.ensures ∙ line 1 _ _ _ _ c.stop1.ensures c.pc1.ensures))
-    (c.in_ok-push_words.ensures ∙ ap (λ (l : List ℕ). c.extend_from_slice-3.new.self.items ++ flat_map word_line (zip c.args.addresses.now l)) c.words.ensures)
-    (c.in_ok-extend_from_slice-4.ensures.items ∙ ap (λ (l : List ℕ). c.push_words.new.out.items ++ l) (c.as_bytes-3.ensures.value ∙ c.in_ok-order.ensures ∙ ap order_line c.as_slice.ensures.value))
+    (c.in_ok-append.ensures ∙ ap (λ (l : List ℕ). c.push_sent.new.out.items ++ l) (c.in_ok-core0.ensures ∙ line 0 _ _ _ _ c.stop0.ensures c.pc0.ensures))
+    (c.in_ok-append-2.ensures ∙ ap (λ (l : List ℕ). c.append.new.out.items ++ l) (c.in_ok-core1.ensures ∙ line 1 _ _ _ _ c.stop1.ensures c.pc1.ensures))
+    (c.in_ok-push_words.ensures ∙ ap (λ (l : List ℕ). c.append-2.new.out.items ++ flat_map word_line (zip c.args.addresses.now l)) c.words.ensures)
+    (c.in_ok-append-3.ensures ∙ ap (λ (l : List ℕ). c.push_words.new.out.items ++ l) (c.in_ok-order.ensures ∙ ap order_line c.as_slice.ensures.value))

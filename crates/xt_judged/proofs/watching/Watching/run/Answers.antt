@@ -1,12 +1,9 @@
 use Rattle.std.proofs.Common.{◌≡◌, ℕ, ◌+◌, ◌-◌, Bool, sym, ◌∙◌, arith}
-use Rattle.xt_map.specs.declared.contents.MemoryContents.{MemoryContents}
 use Rattle.xt_map.specs.Memory.{constant_byte}
 use Rattle.xt_exec.specs.Chips.{processor}
 use Rattle.xt_outcomes.proofs.Spreading.{onward_end, onward_off, onward_on, onward_start}
 use Rattle.xt_judged.specs.OwnJudges.{Watched, is_alone, own_in, range_of, watched_past, watched_run}
 use Rattle.xt_judged.specs.WatchedKept.{watched_of}
-use Rattle.xt_judged.specs.declared.watched.Watched as kept
-use Rattle.xt_judged.proofs.SeenAs.{if_ok}
 use Rattle.xt_judged.proofs.watching.Watching.run.Goals as goal
 
 pub loop-made-init : goal.loop-made-init
@@ -57,10 +54,8 @@ returns-then-not-is_local c =
     let ps = c.args.self.now.places.list.items in
     let most = c.args.self.now.most_local in
     let step : Watched → Watched = watched_past (processor code) code r0 r1 t.timed core in
-    let last = onward_off (λ w. is_alone code t.timed ps core (own_in core w)) step (most - c.loop-made.made) (watched_of m c.loop-made.next) (watched_run code r0 r1 t.timed ps most core v)
-    (sym (c.is_local.ensures m) ∙ c.if-not-is_local.true) c.loop-made.invariant.run in
-    if_ok c.watched.result (λ (w : kept.Watched). (n : MemoryContents) → watched_of n w ≡ watched_of n c.loop-made.next) (λ (w : kept.Watched). watched_of m w ≡ watched_run code r0 r1 t.timed ps most core v)
-    (λ w h. h m ∙ last) c.watched.ensures
+    onward_off (λ w. is_alone code t.timed ps core (own_in core w)) step (most - c.loop-made.made) (watched_of m c.loop-made.next) (watched_run code r0 r1 t.timed ps most core v)
+    (sym (c.is_local.ensures m) ∙ c.if-not-is_local.true) c.loop-made.invariant.run
 
 pub returns : goal.returns
 returns c =
@@ -74,7 +69,5 @@ returns c =
     let ps = c.args.self.now.places.list.items in
     let most = c.args.self.now.most_local in
     let step : Watched → Watched = watched_past (processor code) code r0 r1 t.timed core in
-    let last = onward_end (λ w. is_alone code t.timed ps core (own_in core w)) step most c.loop-made.made (watched_of m c.loop-made.next) (watched_run code r0 r1 t.timed ps most core v)
-    c.loop-made-test.false c.loop-made.invariant.run in
-    if_ok c.watched-2.result (λ (w : kept.Watched). (n : MemoryContents) → watched_of n w ≡ watched_of n c.loop-made.next) (λ (w : kept.Watched). watched_of m w ≡ watched_run code r0 r1 t.timed ps most core v)
-    (λ w h. h m ∙ last) c.watched-2.ensures
+    onward_end (λ w. is_alone code t.timed ps core (own_in core w)) step most c.loop-made.made (watched_of m c.loop-made.next) (watched_run code r0 r1 t.timed ps most core v)
+    c.loop-made-test.false c.loop-made.invariant.run

@@ -17,10 +17,13 @@ use Rattle.xt_outcomes.proofs.Continuing.{there}
 use Rattle.xt_outcomes.proofs.Covering.{RunsAreFree, are_turns, order_more, runs_are_free}
 use Rattle.xt_outcomes.proofs.Finding.{found_by, graph_of_machine}
 use Rattle.xt_outcomes.proofs.Spreading.{drop_all, first_free, free_more, order_at, rest_free, run_more, turns_more}
-use Rattle.xt_outcomes.proofs.found.order_of.Goals as goal
+use Rattle.xt_outcomes.proofs.found.order_at.Goals as goal
 
 pub order_to-requires-clause-graph : goal.order_to-requires-clause-graph
 order_to-requires-clause-graph c = graph_of_machine c.args.image.now c.args.options.now c.args.search.now c.requires.search
+
+pub open_for-requires-clause-memory : goal.open_for-requires-clause-memory
+open_for-requires-clause-memory c = c.requires.search.opening
 
 pub made-requires-clause-core : goal.made-requires-clause-core
 made-requires-clause-core c =
@@ -51,7 +54,7 @@ loop-at-init c =
     let R = spot_run code t.timed t.dead.masks.items t.places.list.items t.most_local in
     let runs = c.in_ok-runs.runs.items in
     let none = sym c.new-order.ensures.items in
-    let e = c.in_ok-world.ensures.spot ∙ ap (spot_forgotten t.dead.masks.items) (ap (λ (k : MemoryContents). spot_of k c.in_ok-first.first) c.requires.search.opening ∙ c.in_ok-first.ensures.spot) in
+    let e = ap (λ (k : MemoryContents). spot_of k c.in_ok-world.world) c.requires.search.opening ∙ c.in_ok-world.ensures.spot in
     let f : spot_of m first.0 ≡ p = ap (λ (k : MemoryContents). spot_of k first.0) c.requires.search.opening ∙ first.2 in
     let w = there s.graph.kept.items c.args.number c.requires.number in
     let left = runs_are_free code t.timed t.dead.masks.items t.places.list.items t.most_local m runs first.0 w.0 (c.in_ok-runs.ensures.leads first.0 w.0 first.1 w.1) in

@@ -11,7 +11,7 @@ use Rattle.xt_outcomes.specs.Places.{spot_run}
 use Rattle.xt_outcomes.specs.Nexts.{TurnsFit, spot_next}
 use Rattle.xt_outcomes.specs.Spots.{spot_in}
 use Rattle.xt_outcomes.proofs.Covering.{RunsAreFree}
-use Rattle.xt_outcomes.proofs.found.order_of.Given as goal
+use Rattle.xt_outcomes.proofs.found.order_at.Given as goal
 
 -- the turns so far lead to the world, and the other runs from there; none uses time
 abbrev pub invariant-loop-at : goal.invariant-loop-at
