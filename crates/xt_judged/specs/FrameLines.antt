@@ -6,11 +6,11 @@ use Rattle.xt_word.specs.Hexadecimal.{hex8}
 use Rattle.xt_report.specs.Breaches.{kind_text}
 use Rattle.xt_report.specs.Reports.{newline}
 use Rattle.xt_judged.specs.OrderText.{order_text}
-use Rattle.xt_judged.specs.declared.frames.Frames.{Frames}
-use Rattle.xt_judged.specs.declared.frames.Frames.TheVariants as frames
+use Rattle.xt_judged.specs.declared.frames.JudgedOrders.{JudgedOrders}
+use Rattle.xt_judged.specs.declared.frames.JudgedOrders.TheVariants as frames
 use Rattle.xt_judged.specs.declared.frames.OrderBreach.{OrderBreach}
 
-abbrev pub frames_word : Frames → List ℕ
+abbrev pub frames_word : JudgedOrders → List ℕ
 frames_word frames.Unknown = codes "unknown"
 frames_word frames.Unchecked = codes "none"
 frames_word frames.Whole = codes "whole"
@@ -25,15 +25,15 @@ breach_line b = concat (
     ∷ codes " order " ∷ order_text b.order.items
     ∷ newline ∷ [])
 
-abbrev pub breach_lines : Frames → List ℕ
+abbrev pub breach_lines : JudgedOrders → List ℕ
 breach_lines frames.Unknown = []
 breach_lines frames.Unchecked = []
 breach_lines frames.Whole = []
 breach_lines (frames.Broken breaches) = flat_map breach_line breaches.items
 
 -- `frames F`, and the breaches that were met
-abbrev pub frames_line : Frames → List ℕ
+abbrev pub frames_line : JudgedOrders → List ℕ
 frames_line f = concat (codes "frames " ∷ frames_word f ∷ newline ∷ [])
 
-abbrev pub frames_lines : Frames → List ℕ
+abbrev pub frames_lines : JudgedOrders → List ℕ
 frames_lines f = frames_line f ++ breach_lines f

@@ -15,8 +15,8 @@ use Rattle.xt_search.specs.Worlds.{IsOrder}
 use Rattle.xt_judged.specs.Once.{HaveOwn}
 use Rattle.xt_discipline.specs.Verdicts.{are_checked}
 use Rattle.xt_judged.specs.Runs.{AllAreWhole, IsVerdictOf}
-use Rattle.xt_judged.specs.declared.frames.Frames.{Frames}
-use Rattle.xt_judged.specs.declared.frames.Frames.TheVariants.{Broken, Unchecked, Unknown, Whole}
+use Rattle.xt_judged.specs.declared.frames.JudgedOrders.{JudgedOrders}
+use Rattle.xt_judged.specs.declared.frames.JudgedOrders.TheVariants.{Broken, Unchecked, Unknown, Whole}
 use Rattle.xt_judged.specs.declared.frames.OrderBreach.{OrderBreach}
 use Rattle.xt_judged.specs.declared.scene.Shown.{Shown}
 
@@ -65,7 +65,7 @@ pub record AreBreaches (image : Image) (o : Options) (timed : Bool) (list : List
   pub once : HaveOwn place_of list
 
 -- `none` if and only if a window handler fails its check
-abbrev pub AreFrames : Image → Options → (timed : Bool) → Frames → Type 0
+abbrev pub AreFrames : Image → Options → (timed : Bool) → JudgedOrders → Type 0
 AreFrames image o timed Unknown = are_checked image o ≡ true
 AreFrames image o timed Unchecked = are_checked image o ≡ false
 AreFrames image o timed Whole = (are_checked image o ≡ true) × AllAreWhole image o timed

@@ -19,8 +19,8 @@ use Rattle.xt_judged.specs.OrderText.{order_text}
 use Rattle.xt_judged.specs.RaceLines.{turn_lines}
 use Rattle.xt_judged.specs.FrameLines.{frames_lines}
 use Rattle.xt_judged.specs.OrderFrames.{AreFrames}
-use Rattle.xt_judged.specs.declared.frames.Frames.{Frames}
-use Rattle.xt_judged.specs.declared.frames.Frames.TheVariants as frames
+use Rattle.xt_judged.specs.declared.frames.JudgedOrders.{JudgedOrders}
+use Rattle.xt_judged.specs.declared.frames.JudgedOrders.TheVariants as frames
 
 -- ---- an outcome
 
@@ -72,14 +72,14 @@ is_all ending.States = false
 is_all (ending.Time core pc) = false
 
 -- every order was looked at, and it is known what is judged of their runs, or not
-abbrev pub all_text : Frames → List ℕ
+abbrev pub all_text : JudgedOrders → List ℕ
 all_text frames.Unknown = codes "some frames"
 all_text frames.Unchecked = codes "all"
 all_text frames.Whole = codes "all"
 all_text (frames.Broken breaches) = codes "all"
 
 -- or as many worlds were kept as may be, or a turn uses time
-abbrev pub end_line : Frames → Ending → List ℕ
+abbrev pub end_line : JudgedOrders → Ending → List ℕ
 end_line f ending.All = all_text f ++ newline
 end_line f ending.States = codes "some states\n"
 end_line f (ending.Time core pc) = concat (
@@ -100,7 +100,7 @@ count_line n = concat (codes "outcomes " ∷ decimal n ∷ newline ∷ [])
 -- ---- the text
 
 -- of an image with these constant bytes
-abbrev pub answers_text : (ℕ → ℕ) → List ℕ → Answers → Frames → List ℕ
+abbrev pub answers_text : (ℕ → ℕ) → List ℕ → Answers → JudgedOrders → List ℕ
 answers_text code addresses a f = concat (
     flat_map (outcome_text addresses) a.found.items
     ∷ count_line (length a.found.items)
@@ -116,6 +116,6 @@ pub record IsAnswersText (image : Image) (o : Options) (timed : Bool) (addresses
     (most : ℕ) (text : List ℕ) : Type 0 where
   pub answers : Answers
   pub are : AreAnswers image o timed addresses most answers
-  pub frames : Frames
+  pub frames : JudgedOrders
   pub are_frames : AreFrames image o timed frames
   pub text_is : text ≡ answers_text (code_of image) addresses answers frames

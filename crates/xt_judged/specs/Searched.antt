@@ -6,12 +6,12 @@ use Rattle.xt_trace.specs.declared.options.Options.{Options}
 use Rattle.xt_fetch.specs.Code.{AreBytes}
 use Rattle.xt_core.specs.Runs.{code_of, memory_of}
 use Rattle.xt_search.specs.Graphs.{IsGraph, OpensWith}
-use Rattle.xt_judged.specs.declared.joint.Search.{Search}
+use Rattle.xt_judged.specs.declared.joint.JointSearch.{JointSearch}
 use Rattle.xt_judged.specs.declared.scene.Scene.{Scene}
 use Rattle.xt_judged.specs.Kept.{IsFirst, Leads}
 
 -- a search of this image and these options
-pub record IsSearch (image : Image) (o : Options) (timed : Bool) (s : Search) : Type 0 where
+pub record IsSearch (image : Image) (o : Options) (timed : Bool) (s : JointSearch) : Type 0 where
   pub bytes : AreBytes (code_of image)
   pub code : s.machine.timed.code ≡ image.segments
   pub opening : s.machine.timed.opening.contents ≡ memory_of image o

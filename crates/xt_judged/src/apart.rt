@@ -9,7 +9,7 @@ ghost use Rattle.xt_judged.specs.Kept.{IsTree};
 ghost use Rattle.xt_judged.specs.Runs.{AllAreWhole};
 ghost use Rattle.xt_judged.specs.WatchedSearch.{AreAllSettled, AreStacksApart, IsSearch};
 
-use crate::judging::Desk;
+use crate::judging::SceneDesk;
 use crate::opening::{open_watched, open_world};
 use crate::watched::Watched;
 use crate::watching::Watching;
@@ -51,7 +51,7 @@ fn search_by<'a>(
     image: &'a Image,
     options: &Options,
     timed: bool,
-    desk: &mut Desk,
+    desk: &mut SceneDesk,
     places: Places,
     most: u32,
 ) -> Result<OwnSearch<'a>, AllocError>
@@ -181,7 +181,7 @@ pub fn search_watched<'a>(
     image: &'a Image,
     options: &Options,
     timed: bool,
-    desk: &mut Desk,
+    desk: &mut SceneDesk,
     most: u32,
 ) -> Result<OwnSearch<'a>, AllocError>
     requires valid { IsValid options.now }

@@ -2,7 +2,7 @@
 ghost use Rattle.std.specs.Prelude.{◌≡◌, ◌++◌, IfOk, OnOk, string_bytes, flat_map};
 ghost use Rattle.xt_judged.specs.FrameLines.{breach_line, frames_lines, frames_word};
 
-use crate::frames::{Frames, OrderBreach};
+use crate::frames::{JudgedOrders, OrderBreach};
 use crate::lines::append;
 use crate::order_rows::order_text;
 use std::alloc::{AllocError, Global};
@@ -10,14 +10,14 @@ use xt_report::kind_text;
 use xt_word::hexadecimal;
 
 // What is judged, in a word.
-fn frames_word(frames: &Frames) -> &'static str
+fn frames_word(frames: &JudgedOrders) -> &'static str
     ensures { result.now ≡ frames_word frames.now }
 {
     match frames {
-        Frames::Unknown => "unknown",
-        Frames::Unchecked => "none",
-        Frames::Whole => "whole",
-        Frames::Broken(_) => "broken",
+        JudgedOrders::Unknown => "unknown",
+        JudgedOrders::Unchecked => "none",
+        JudgedOrders::Whole => "whole",
+        JudgedOrders::Broken(_) => "broken",
     }
 }
 
@@ -45,16 +45,16 @@ fn push_breaches(alloc: Global, out: &mut Vec<u8>, list: &[OrderBreach]) -> Resu
 
 /// Appends the line of what is judged, `frames F`, and the lines of the breaches that were met,
 /// `breach KIND core C pc ADDR order LIST` each. The only error is running out of memory.
-pub fn push_frames(alloc: Global, out: &mut Vec<u8>, frames: &Frames) -> Result<(), AllocError>
+pub fn push_frames(alloc: Global, out: &mut Vec<u8>, frames: &JudgedOrders) -> Result<(), AllocError>
     ensures { OnOk result (out.new.items ≡ out.old.items ++ frames_lines frames.now) }
 {
     let word = frames_word(frames);
     let line = format!(in alloc; "frames {word}\n")?;
     append(out, line)?;
     match frames {
-        Frames::Broken(list) => push_breaches(alloc, out, list.as_slice()),
-        Frames::Unknown => Ok(()),
-        Frames::Unchecked => Ok(()),
-        Frames::Whole => Ok(()),
+        JudgedOrders::Broken(list) => push_breaches(alloc, out, list.as_slice()),
+        JudgedOrders::Unknown => Ok(()),
+        JudgedOrders::Unchecked => Ok(()),
+        JudgedOrders::Whole => Ok(()),
     }
 }

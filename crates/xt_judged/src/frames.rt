@@ -9,7 +9,7 @@ ghost use Rattle.xt_discipline.specs.Verdicts.{are_checked};
 use crate::apart::{self, search_watched};
 use crate::breaches::{Met, breaches_of};
 use crate::joint::{self, search_scenes};
-use crate::judging::Desk;
+use crate::judging::SceneDesk;
 use crate::scene::Shown;
 use std::alloc::{AllocError, Global};
 use xt_discipline::{are_yes, handlers_of};
@@ -43,7 +43,7 @@ impl OrderBreach {
 }
 
 /// What is judged of the runs of all orders by the discipline of the stack.
-pub enum Frames {
+pub enum JudgedOrders {
     /// Nothing is known of them all.
     Unknown,
     /// A window handler fails its check, so no run is judged.
@@ -55,13 +55,13 @@ pub enum Frames {
 }
 
 // A `drop` of its own is one call at each place where a value is dropped.
-impl Drop for Frames {
+impl Drop for JudgedOrders {
     fn drop(self) {
         match self {
-            Frames::Unknown => {}
-            Frames::Unchecked => {}
-            Frames::Whole => {}
-            Frames::Broken(_) => {}
+            JudgedOrders::Unknown => {}
+            JudgedOrders::Unchecked => {}
+            JudgedOrders::Whole => {}
+            JudgedOrders::Broken(_) => {}
         }
     }
 }
@@ -73,7 +73,7 @@ fn found_in<W: Met + Drop>(
     options: &Options,
     timed: bool,
     graph: &Graph<W>,
-) -> Result<Frames, AllocError>
+) -> Result<JudgedOrders, AllocError>
     requires image { IsWellFormed image.now }
     requires valid { IsValid options.now }
     requires checked { are_checked image.now options.now ≡ true }
@@ -82,9 +82,9 @@ fn found_in<W: Met + Drop>(
 {
     let list = breaches_of(alloc, image, options, timed, graph)?;
     if list.is_empty() {
-        return Ok(Frames::Unknown);
+        return Ok(JudgedOrders::Unknown);
     }
-    Ok(Frames::Broken(list))
+    Ok(JudgedOrders::Broken(list))
 }
 
 // What is judged by a search in which each core has a judge of its own. The only error is running out of
@@ -94,9 +94,9 @@ fn judge_apart(
     image: &Image,
     options: &Options,
     timed: bool,
-    desk: &mut Desk,
+    desk: &mut SceneDesk,
     most: u32,
-) -> Result<Frames, AllocError>
+) -> Result<JudgedOrders, AllocError>
     requires image { IsWellFormed image.now }
     requires valid { IsValid options.now }
     requires checked { are_checked image.now options.now ≡ true }
@@ -105,7 +105,7 @@ fn judge_apart(
     well_formed_is_placed();
     let search = search_watched(alloc, image, options, timed, desk, most)?;
     if apart::is_whole(image, options, timed, &search) {
-        return Ok(Frames::Whole);
+        return Ok(JudgedOrders::Whole);
     }
     found_in(alloc, image, options, timed, &search.graph)
 }
@@ -117,9 +117,9 @@ fn judge_both(
     image: &Image,
     options: &Options,
     timed: bool,
-    desk: &mut Desk,
+    desk: &mut SceneDesk,
     most: u32,
-) -> Result<Frames, AllocError>
+) -> Result<JudgedOrders, AllocError>
     requires image { IsWellFormed image.now }
     requires valid { IsValid options.now }
     requires checked { are_checked image.now options.now ≡ true }
@@ -128,7 +128,7 @@ fn judge_both(
     well_formed_is_placed();
     let search = search_scenes(alloc, image, options, timed, desk, most)?;
     if joint::is_whole(image, options, timed, &search) {
-        return Ok(Frames::Whole);
+        return Ok(JudgedOrders::Whole);
     }
     found_in(alloc, image, options, timed, &search.graph)
 }
@@ -144,7 +144,7 @@ pub fn judge_orders(
     options: &Options,
     timed: bool,
     most: u32,
-) -> Result<Frames, AllocError>
+) -> Result<JudgedOrders, AllocError>
     requires image { IsWellFormed image.now }
     requires valid { IsValid options.now }
     ensures { IfOk result (AreFrames image.now options.now timed) }
@@ -152,11 +152,11 @@ pub fn judge_orders(
     well_formed_is_placed();
     let handlers = handlers_of(alloc, image, options.vecbase)?;
     if !are_yes(&handlers) {
-        return Ok(Frames::Unchecked);
+        return Ok(JudgedOrders::Unchecked);
     }
-    let mut desk = Desk::make(alloc)?;
+    let mut desk = SceneDesk::make(alloc)?;
     let frames = judge_apart(alloc, image, options, timed, &mut desk, most)?;
-    if let Frames::Unknown = &frames {
+    if let JudgedOrders::Unknown = &frames {
         return judge_both(alloc, image, options, timed, &mut desk, most);
     }
     Ok(frames)

@@ -9,7 +9,7 @@ ghost use Rattle.xt_judged.specs.Runs.{AllAreWhole};
 ghost use Rattle.xt_judged.specs.Searched.{IsSearch};
 
 use crate::breaches::shows_some;
-use crate::judging::{Desk, Judging};
+use crate::judging::{SceneDesk, Judging};
 use crate::opening::open;
 use crate::scene::Scene;
 use std::alloc::{AllocError, Global};
@@ -22,15 +22,15 @@ use xt_trace::Options;
 const MOST_ALONE: u16 = 4096;
 
 /// The machine of an image, and the scenes that were found.
-pub struct Search<'a> {
+pub struct JointSearch<'a> {
     pub machine: Judging<'a>,
     pub graph: Graph<Scene>,
 }
 
 // A `drop` of its own is one call at each place where a value is dropped.
-impl Drop for Search<'_> {
+impl Drop for JointSearch<'_> {
     fn drop(self) {
-        let Search {
+        let JointSearch {
             machine: _,
             graph: _,
         } = self;
@@ -46,9 +46,9 @@ pub fn search_scenes<'a>(
     image: &'a Image,
     options: &Options,
     timed: bool,
-    desk: &mut Desk,
+    desk: &mut SceneDesk,
     most: u32,
-) -> Result<Search<'a>, AllocError>
+) -> Result<JointSearch<'a>, AllocError>
     requires valid { IsValid options.now }
     requires fits { FitsImage image.now }
     requires placed { IsPlaced image.now.segments }
@@ -62,11 +62,11 @@ pub fn search_scenes<'a>(
     };
     let opening = open(alloc, image, options, timed)?;
     let graph = search(alloc, &machine, desk, opening, most)?;
-    Ok(Search { machine, graph })
+    Ok(JointSearch { machine, graph })
 }
 
 /// Whether the search has shown that no run has a breach.
-pub fn is_whole(image: &Image, options: &Options, timed: bool, search: &Search) -> bool
+pub fn is_whole(image: &Image, options: &Options, timed: bool, search: &JointSearch) -> bool
     requires search { IsSearch image.now options.now timed search.now }
     requires checked { are_checked image.now options.now ≡ true }
     ensures { result ≡ true → AllAreWhole image.now options.now timed }

@@ -46,16 +46,16 @@ impl Drop for Judging<'_> {
 }
 
 /// What the kept states of a search share, and a core that makes turns.
-pub struct Desk {
+pub struct SceneDesk {
     shared: Shared,
     standings: Shelf<Standing>,
     stales: Shelf<Stale>,
     judges: Shelf<OwnJudge>,
 }
 
-impl Drop for Desk {
+impl Drop for SceneDesk {
     fn drop(self) {
-        let Desk {
+        let SceneDesk {
             shared: _,
             standings: _,
             stales: _,
@@ -64,10 +64,10 @@ impl Drop for Desk {
     }
 }
 
-impl Desk {
+impl SceneDesk {
     /// Nothing is shared yet. The only error is running out of memory.
-    pub fn make(alloc: Global) -> Result<Desk, AllocError> {
-        Ok(Desk {
+    pub fn make(alloc: Global) -> Result<SceneDesk, AllocError> {
+        Ok(SceneDesk {
             shared: Shared::new(alloc)?,
             standings: Shelf::new(alloc)?,
             stales: Shelf::new(alloc)?,
@@ -278,7 +278,7 @@ impl<'a> Machine for Judging<'a> {
 
     type World = Scene;
 
-    type Desk = Desk;
+    type Desk = SceneDesk;
 
     ghost use Rattle.xt_judged.specs.Kept as kept;
 
@@ -295,7 +295,7 @@ impl<'a> Machine for Judging<'a> {
 
     fn turned(
         &self,
-        desk: &mut Desk,
+        desk: &mut SceneDesk,
         scene: &Scene,
         core: u8,
     ) -> Result<Option<Scene>, AllocError> {

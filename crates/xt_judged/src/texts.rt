@@ -7,7 +7,7 @@ ghost use Rattle.xt_image.specs.ImageParts.{IsWellFormed};
 ghost use Rattle.xt_judged.specs.OutcomesText.{IsAnswersText, all_text, answers_text, count_line, end_line, is_all, none_text, outcome_text, race_line, stuck_line, stuck_text};
 
 use crate::frame_lines::push_frames;
-use crate::frames::{Frames, judge_orders};
+use crate::frames::{JudgedOrders, judge_orders};
 use crate::lines::append;
 use crate::order_rows::order_text;
 use crate::outcome_lines::push_outcome;
@@ -79,17 +79,17 @@ fn is_all(ended: Ending) -> bool
 }
 
 // That every order was looked at, and whether it is known what is judged of their runs.
-fn all_text(frames: &Frames) -> &'static str
+fn all_text(frames: &JudgedOrders) -> &'static str
     ensures { result.now ≡ all_text frames.now }
 {
     match frames {
-        Frames::Unknown => "some frames",
-        Frames::Unchecked | Frames::Whole | Frames::Broken(_) => "all",
+        JudgedOrders::Unknown => "some frames",
+        JudgedOrders::Unchecked | JudgedOrders::Whole | JudgedOrders::Broken(_) => "all",
     }
 }
 
 // How the search ended.
-fn end_line(alloc: Global, frames: &Frames, ended: Ending) -> Result<String, AllocError>
+fn end_line(alloc: Global, frames: &JudgedOrders, ended: Ending) -> Result<String, AllocError>
     ensures { IfOk result (λ line. string_bytes line ≡ end_line frames.now ended) }
 {
     match ended {
@@ -150,7 +150,7 @@ pub fn answers_text(
     code: &Constants,
     addresses: &[u32],
     answers: &Answers,
-    frames: &Frames,
+    frames: &JudgedOrders,
 ) -> Result<Text, AllocError>
     ensures { IfOk result (λ text. text ≡ answers_text (constant_byte code.now) addresses.now answers.now frames.now) }
 {

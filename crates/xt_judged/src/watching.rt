@@ -8,7 +8,7 @@ ghost use Rattle.xt_judged.specs.WatchedKept.{AreSettled, judge_in, watched_of};
 ghost use Rattle.xt_outcomes.specs.Places.{is_told};
 
 use crate::clock::uses_time;
-use crate::judging::Desk;
+use crate::judging::SceneDesk;
 use crate::watched::Watched;
 use std::alloc::{AllocError, Global};
 use xt_outcomes::{Places, Timed};
@@ -153,7 +153,7 @@ impl<'a> Machine for Watching<'a> {
 
     type World = Watched;
 
-    type Desk = Desk;
+    type Desk = SceneDesk;
 
     ghost use Rattle.xt_judged.specs.WatchedKept as kept;
 
@@ -170,7 +170,7 @@ impl<'a> Machine for Watching<'a> {
 
     fn turned(
         &self,
-        desk: &mut Desk,
+        desk: &mut SceneDesk,
         watched: &Watched,
         core: u8,
     ) -> Result<Option<Watched>, AllocError> {

@@ -16,7 +16,7 @@ pub fn begins_word(byte: u8) -> bool
 
 /// The bytes of which a run is made.
 #[derive(Clone, Copy)]
-pub enum Run {
+pub enum ByteRun {
     /// Those with which a word goes on.
     Word,
     /// Decimal digits.
@@ -28,19 +28,19 @@ pub enum Run {
 }
 
 // Whether a byte is one of a run's.
-fn is_of(run: Run, byte: u8) -> bool
+fn is_of(run: ByteRun, byte: u8) -> bool
     ensures { result ≡ is_of run byte }
 {
     match run {
-        Run::Word => begins_word(byte) || byte.is_ascii_digit(),
-        Run::Decimal => byte.is_ascii_digit(),
-        Run::Hexadecimal => byte.is_ascii_hexdigit(),
-        Run::Line => byte != b'\n',
+        ByteRun::Word => begins_word(byte) || byte.is_ascii_digit(),
+        ByteRun::Decimal => byte.is_ascii_digit(),
+        ByteRun::Hexadecimal => byte.is_ascii_hexdigit(),
+        ByteRun::Line => byte != b'\n',
     }
 }
 
 /// How many bytes of a run stand at the front.
-pub fn width_of(run: Run, bytes: &[u8]) -> usize
+pub fn width_of(run: ByteRun, bytes: &[u8]) -> usize
     ensures width { result ≡ prefix_len (is_of run) bytes.now }
     ensures within { result ≤ length bytes.now }
 {

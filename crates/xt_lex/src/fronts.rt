@@ -3,7 +3,7 @@ ghost use Rattle.xt_lex.specs.TextBytes.{number_of};
 ghost use Rattle.xt_lex.specs.Fronts.{number_kind, number_kind_of, word_front, decimal_front, hex_front, longer, character_front, string_front, mark_front, token_at};
 ghost use Rattle.xt_lex.specs.Forms.{form_at};
 
-use crate::bytes::{Run, begins_word, number_in, stands_for_itself, string_rest, width_of};
+use crate::bytes::{ByteRun, begins_word, number_in, stands_for_itself, string_rest, width_of};
 use crate::name::Name;
 use crate::token::TokenKind;
 use std::alloc::{AllocError, Global};
@@ -17,7 +17,7 @@ fn word(alloc: Global, bytes: &[u8]) -> Result<Front, AllocError>
 {
     match bytes {
         [first, ..] if begins_word(*first) => {
-            let width = width_of(Run::Word, bytes);
+            let width = width_of(ByteRun::Word, bytes);
             let held = Vec::from_slice(alloc, bytes.split_at(width).0)?;
             Ok(Some((TokenKind::Word(Name::new(held)), width)))
         }
@@ -38,7 +38,7 @@ fn kind_of_number(number: Option<u32>) -> TokenKind
 fn decimal(bytes: &[u8]) -> Front
     ensures { result ≡ decimal_front bytes.now }
 {
-    let width = width_of(Run::Decimal, bytes);
+    let width = width_of(ByteRun::Decimal, bytes);
     if width == 0 {
         return None;
     }
@@ -52,7 +52,7 @@ fn hex(bytes: &[u8]) -> Front
 {
     match bytes {
         [b'0', b'x', digits @ ..] => {
-            let width = width_of(Run::Hexadecimal, digits);
+            let width = width_of(ByteRun::Hexadecimal, digits);
             if width == 0 {
                 return None;
             }

@@ -2,7 +2,7 @@ ghost use Rattle.std.specs.Prelude.{◌≡◌, ◌<◌, ◌≤◌, ◌++◌, ◌
 ghost use Rattle.xt_lex.specs.Fronts.{token_at};
 ghost use Rattle.xt_lex.specs.Tokens.{starts_blank, starts_comment, valid, line_tokens, lines_of, tokens_of, IsLexed};
 
-use crate::bytes::{Run, width_of};
+use crate::bytes::{ByteRun, width_of};
 use crate::fronts::front;
 use crate::token::{Token, TokenKind, Tokens};
 use std::alloc::{AllocError, Global};
@@ -92,7 +92,7 @@ fn line_width(text: &[u8]) -> usize
     ensures forward { 0 < result }
     ensures within { result ≤ length text.now }
 {
-    let before = width_of(Run::Line, text);
+    let before = width_of(ByteRun::Line, text);
     if before < text.len() {
         before + 1
     } else {

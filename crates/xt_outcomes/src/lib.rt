@@ -38,5 +38,5 @@ pub use races::{NextRace, race_of};
 pub use shelf::{Part, Shelf};
 pub use sides::Side;
 pub use stuck::stuck_of;
-pub use timed::{Run, Timed};
+pub use timed::{Timed, WorldRun};
 pub use world::{Shared, World};

@@ -56,7 +56,7 @@ impl Drop for Timed<'_> {
 
 /// A world, and how many turns of a core led to it.
 #[derive(Drop)]
-pub struct Run {
+pub struct WorldRun {
     pub world: World,
     pub turns: u32,
 }
@@ -352,20 +352,20 @@ impl<'a> Timed<'a> {
         side: Side,
         changes: Changes,
         turns: u32,
-    ) -> Result<Run, AllocError>
+    ) -> Result<WorldRun, AllocError>
         ensures turns { IfOk result (λ r. r.turns ≡ turns) }
         ensures changes { IfOk result (λ r. r.world.changes.value ≡ changes) }
         ensures spot { IfOk result (λ r. (m : MemoryContents) → spot_of m r.world ≡ moved_spot core side (contents_of m changes) (spot_of m world.now)) }
     {
         let world = desk.shared.moved(self.alloc, world, core, side, changes)?;
-        Ok(Run { world, turns })
+        Ok(WorldRun { world, turns })
     }
 
     /// A turn of a core, and then its turns that meet nothing; None: the search has to end before the first
     /// one. The only error is running out of memory.
     ///
     /// Condition: the core is 0 or 1.
-    pub fn run(&self, desk: &mut Desk, world: &World, core: u8) -> Result<Option<Run>, AllocError>
+    pub fn run(&self, desk: &mut Desk, world: &World, core: u8) -> Result<Option<WorldRun>, AllocError>
         requires core { core < 2 }
         ensures run { IfOk result (λ o. IfSome o (λ r. spot_of self.now.opening.contents r.world ≡ spot_run (constant_byte self.now.code) self.now.timed self.now.dead.masks.items self.now.places.list.items self.now.most_local core (spot_of self.now.opening.contents world.now))) }
         ensures turns { IfOk result (λ o. IfSome o (λ r. spot_of self.now.opening.contents r.world ≡ after (spot_next (processor (constant_byte self.now.code)) self.now.timed self.now.dead.masks.items) (turns_of core r.turns) (spot_of self.now.opening.contents world.now))) }
@@ -412,7 +412,7 @@ impl<'a> Timed<'a> {
     /// error is running out of memory.
     ///
     /// Condition: the core is 0 or 1.
-    pub(crate) fn made(&self, desk: &mut Desk, world: &World, core: u8) -> Result<Run, AllocError>
+    pub(crate) fn made(&self, desk: &mut Desk, world: &World, core: u8) -> Result<WorldRun, AllocError>
         requires core { core < 2 }
         requires free { bars (constant_byte self.now.code) self.now.timed self.now.dead.masks.items self.now.opening.contents core world.now ≡ false }
         ensures run { IfOk result (λ r. spot_of self.now.opening.contents r.world ≡ spot_run (constant_byte self.now.code) self.now.timed self.now.dead.masks.items self.now.places.list.items self.now.most_local core (spot_of self.now.opening.contents world.now)) }
