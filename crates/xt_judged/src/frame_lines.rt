@@ -45,7 +45,11 @@ fn push_breaches(alloc: Global, out: &mut Vec<u8>, list: &[OrderBreach]) -> Resu
 
 /// Appends the line of what is judged, `frames F`, and the lines of the breaches that were met,
 /// `breach KIND core C pc ADDR order LIST` each. The only error is running out of memory.
-pub fn push_frames(alloc: Global, out: &mut Vec<u8>, frames: &JudgedOrders) -> Result<(), AllocError>
+pub fn push_frames(
+    alloc: Global,
+    out: &mut Vec<u8>,
+    frames: &JudgedOrders,
+) -> Result<(), AllocError>
     ensures { OnOk result (out.new.items ≡ out.old.items ++ frames_lines frames.now) }
 {
     let word = frames_word(frames);

@@ -9,7 +9,7 @@ ghost use Rattle.xt_judged.specs.Runs.{AllAreWhole};
 ghost use Rattle.xt_judged.specs.Searched.{IsSearch};
 
 use crate::breaches::shows_some;
-use crate::judging::{SceneDesk, Judging};
+use crate::judging::{Judging, SceneDesk};
 use crate::opening::open;
 use crate::scene::Scene;
 use std::alloc::{AllocError, Global};

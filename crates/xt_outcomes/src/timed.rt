@@ -365,7 +365,12 @@ impl<'a> Timed<'a> {
     /// one. The only error is running out of memory.
     ///
     /// Condition: the core is 0 or 1.
-    pub fn run(&self, desk: &mut Desk, world: &World, core: u8) -> Result<Option<WorldRun>, AllocError>
+    pub fn run(
+        &self,
+        desk: &mut Desk,
+        world: &World,
+        core: u8,
+    ) -> Result<Option<WorldRun>, AllocError>
         requires core { core < 2 }
         ensures run { IfOk result (λ o. IfSome o (λ r. spot_of self.now.opening.contents r.world ≡ spot_run (constant_byte self.now.code) self.now.timed self.now.dead.masks.items self.now.places.list.items self.now.most_local core (spot_of self.now.opening.contents world.now))) }
         ensures turns { IfOk result (λ o. IfSome o (λ r. spot_of self.now.opening.contents r.world ≡ after (spot_next (processor (constant_byte self.now.code)) self.now.timed self.now.dead.masks.items) (turns_of core r.turns) (spot_of self.now.opening.contents world.now))) }
@@ -412,7 +417,12 @@ impl<'a> Timed<'a> {
     /// error is running out of memory.
     ///
     /// Condition: the core is 0 or 1.
-    pub(crate) fn made(&self, desk: &mut Desk, world: &World, core: u8) -> Result<WorldRun, AllocError>
+    pub(crate) fn made(
+        &self,
+        desk: &mut Desk,
+        world: &World,
+        core: u8,
+    ) -> Result<WorldRun, AllocError>
         requires core { core < 2 }
         requires free { bars (constant_byte self.now.code) self.now.timed self.now.dead.masks.items self.now.opening.contents core world.now ≡ false }
         ensures run { IfOk result (λ r. spot_of self.now.opening.contents r.world ≡ spot_run (constant_byte self.now.code) self.now.timed self.now.dead.masks.items self.now.places.list.items self.now.most_local core (spot_of self.now.opening.contents world.now)) }
