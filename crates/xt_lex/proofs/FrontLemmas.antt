@@ -1,11 +1,10 @@
 -- At most one form of token stands at a place, numbers aside: the first byte tells.
-use Rattle.std.proofs.Common.{◌≡◌, ◌+◌, ◌<◌, ℕ, Bool, true, false, cond, List, [], ◌∷◌, take, Some, None, refl, ◌∙◌, ap, arith, ◌==◌, ◌&&◌, nat_lt}
+use Rattle.std.proofs.Common.{◌≡◌, ◌+◌, ◌<◌, ℕ, Bool, true, false, cond, List, [], ◌∷◌, take, Some, None, refl, ap, arith, ◌==◌, ◌&&◌, nat_lt}
 use Rattle.std.proofs.lemmas.Bool.Decides.{nat_tests}
 use Rattle.std.specs.List.{prefix_len}
 use Rattle.std.specs.Char.{is_ascii_digit}
 use Rattle.xt_lex.specs.declared.token.TokenKind.{TokenKind}
 use Rattle.xt_lex.specs.TextBytes.{is_word_start, number_of}
-use Rattle.xt_lex.specs.declared.fronts.Form.{Form}
 use Rattle.xt_lex.specs.declared.fronts.Form.TheVariants as form
 use Rattle.xt_lex.specs.Forms.{form_at}
 use Rattle.xt_lex.specs.Fronts.{Front, number_kind, hex_digits_front, word_front, decimal_front, hex_front, character_front, string_front, mark_front, longer, token_at}
