@@ -10,7 +10,7 @@ ghost use Rattle.xt_search.specs.Worlds.{IsOrder};
 ghost use Rattle.xt_outcomes.specs.Answered.{AreAnswers};
 ghost use Rattle.xt_outcomes.specs.Outcomes.{CanAllEnd, IsStuck};
 ghost use Rattle.xt_outcomes.specs.declared.answers.Ending.TheVariants.{All};
-ghost use Rattle.xt_outcomes.specs.Searched.{IsComplete, IsSearch};
+ghost use Rattle.xt_outcomes.specs.Searched.{HasEnded, IsComplete, IsSearch};
 
 use crate::found::Search;
 use crate::listing::{Found, outcomes_of};
@@ -79,6 +79,38 @@ fn stuck_where(
     }
 }
 
+// What can be said by a search that keeps at most so many worlds and ended so. The only error is running out
+// of memory.
+fn answers_by(
+    alloc: Global,
+    image: &Image,
+    options: &Options,
+    search: &Search,
+    ended: Ending,
+    timed: bool,
+    words: &[u32],
+    most: u32,
+) -> Result<Answers, AllocError>
+    requires search { IsSearch image.now options.now search.now }
+    requires timed { search.now.machine.timed ≡ timed }
+    requires ended { HasEnded image.now options.now most search.now ended }
+    requires valid { IsValid options.now }
+    requires fits { FitsImage image.now }
+    requires placed { IsPlaced image.now.segments }
+    requires words { Each (λ a. a + 4 ≤ 2 ^ 32) words.now }
+    ensures { IfOk result (λ a. AreAnswers image.now options.now timed words.now most a) }
+{
+    let found = outcomes_of(alloc, image, options, search, words)?;
+    let stuck = stuck_where(alloc, image, options, search, ended)?;
+    let race = race_of(alloc, image, options, search)?;
+    Ok(Answers {
+        found,
+        ended,
+        stuck,
+        race,
+    })
+}
+
 /// What can be said of all orders of an image's turns, where at most so many worlds are kept: timed,
 /// with the turns that the options give, or with any number of turns. Outcomes have the words at these
 /// addresses. The only error is running out of memory.
@@ -100,13 +132,5 @@ pub fn answers_of(
     ensures { IfOk result (λ a. AreAnswers image.now options.now timed words.now most a) }
 {
     let (search, ended) = search_orders(alloc, image, options, timed, most)?;
-    let found = outcomes_of(alloc, image, options, &search, words)?;
-    let stuck = stuck_where(alloc, image, options, &search, ended)?;
-    let race = race_of(alloc, image, options, &search)?;
-    Ok(Answers {
-        found,
-        ended,
-        stuck,
-        race,
-    })
+    answers_by(alloc, image, options, &search, ended, timed, words, most)
 }

@@ -3,6 +3,7 @@ ghost use Rattle.std.specs.Prelude.{◌≡◌, ◌≤◌, ◌⊎◌, ◌↔◌, 
 ghost use Rattle.xt_map.specs.Placing.{IsPlaced};
 ghost use Rattle.xt_trace.specs.Validity.{IsValid};
 ghost use Rattle.xt_image.specs.ImageParts.{FitsImage};
+ghost use Rattle.xt_core.specs.Runs.{memory_of};
 ghost use Rattle.xt_search.specs.Graphs.{IsWhole};
 ghost use Rattle.xt_outcomes.specs.Searched.{AreAllowed, HasEnded, IsComplete, IsSearch, MeetsAllOrders};
 
@@ -16,7 +17,7 @@ use crate::timed::Timed;
 use crate::world::World;
 use std::alloc::{AllocError, Global};
 use xt_image::Image;
-use xt_search::{has_all, search};
+use xt_search::{Graph, has_all, search};
 use xt_trace::Options;
 
 // How many turns that meet nothing are made at once.
@@ -33,6 +34,27 @@ const MOST_SEARCHES: u32 = 128;
 
 // How many of them, the first ones, have dead registers.
 const MOST_WITH_DEAD: u32 = 96;
+
+// The worlds that a machine of an image finds, at most so many. The only error is running out of memory.
+fn searched(
+    alloc: Global,
+    machine: &Timed,
+    image: &Image,
+    options: &Options,
+    desk: &mut Desk,
+    most: u32,
+) -> Result<Graph<World>, AllocError>
+    requires valid { IsValid options.now }
+    requires fits { FitsImage image.now }
+    requires code { machine.now.code ≡ image.now.segments }
+    requires memory { machine.now.opening.contents ≡ memory_of image.now options.now }
+    ensures search { IfOk result (λ g. IsSearch image.now options.now (record { machine = machine.now; graph = g })) }
+    ensures ended { IfOk result (λ g. IfNone g.barred (IsWhole g ⊎ (most ≤ length g.kept.items))) }
+{
+    let opening = open_for(alloc, machine, image, options, desk)?;
+    let graph = search(alloc, machine, desk, opening, most)?;
+    Ok(graph)
+}
 
 /// Searches the worlds after all orders, where turns that meet nothing by these places are made at once, and
 /// by these masks nobody reads dead registers, and keeps at most so many worlds. The only error is running
@@ -57,8 +79,7 @@ pub fn search_by<'a>(
     ensures ended { IfOk result (λ s. IfNone s.graph.barred (IsWhole s.graph ⊎ (most ≤ length s.graph.kept.items))) }
 {
     let machine = Timed::make(alloc, image, options, timed, places, dead, MOST_LOCAL)?;
-    let opening = open_for(alloc, &machine, image, options, desk)?;
-    let graph = search(alloc, &machine, desk, opening, most)?;
+    let graph = searched(alloc, &machine, image, options, desk, most)?;
     Ok(Search { machine, graph })
 }
 
