@@ -42,7 +42,10 @@ pub fn list(alloc: Global, what: &Listing, input: &[u8]) -> Result<Text, Status>
     ensures refused { IfErr result (λ status. status ≢ Status.Memory → image_refusal input.now ≡ Some status) }
 {
     let image = image_in(alloc, input)?;
-    listed(alloc, what, &image).map_err(|_| Status::Memory)
+    match listed(alloc, what, &image) {
+        Ok(text) => Ok(text),
+        Err(_) => Err(Status::Memory),
+    }
 }
 
 /// What an image holds, or the status of the image's first fault.
@@ -53,5 +56,8 @@ pub fn check(alloc: Global, vecbase: u32, input: &[u8]) -> Result<Text, Status>
     ensures refused { IfErr result (λ status. status ≢ Status.Memory → image_refusal input.now ≡ Some status) }
 {
     let image = image_in(alloc, input)?;
-    check_text(alloc, &image, vecbase).map_err(|_| Status::Memory)
+    match check_text(alloc, &image, vecbase) {
+        Ok(text) => Ok(text),
+        Err(_) => Err(Status::Memory),
+    }
 }

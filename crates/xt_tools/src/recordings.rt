@@ -49,7 +49,10 @@ pub fn events(alloc: Global, input: &[u8]) -> Result<Text, Status>
 {
     let (image, run) = recording_in(alloc, input)?;
     well_formed_is_placed();
-    events_text(alloc, &image, &run).map_err(|_| Status::Memory)
+    match events_text(alloc, &image, &run) {
+        Ok(text) => Ok(text),
+        Err(_) => Err(Status::Memory),
+    }
 }
 
 /// How often each core of a recorded run executed the instruction at each address, or the status of the
@@ -60,7 +63,10 @@ pub fn counts(alloc: Global, input: &[u8]) -> Result<Text, Status>
 {
     let (image, run) = recording_in(alloc, input)?;
     well_formed_is_placed();
-    counts_text(alloc, &image, &run).map_err(|_| Status::Memory)
+    match counts_text(alloc, &image, &run) {
+        Ok(text) => Ok(text),
+        Err(_) => Err(Status::Memory),
+    }
 }
 
 /// The first data race of a recorded run, or the status of the recording's first fault.
@@ -70,7 +76,10 @@ pub fn race(alloc: Global, input: &[u8]) -> Result<Text, Status>
 {
     let (image, run) = recording_in(alloc, input)?;
     well_formed_is_placed();
-    race_text(alloc, &image, &run).map_err(|_| Status::Memory)
+    match race_text(alloc, &image, &run) {
+        Ok(text) => Ok(text),
+        Err(_) => Err(Status::Memory),
+    }
 }
 
 // The text of the call profile of a run, with these options. The only error is running out of memory.
@@ -102,7 +111,10 @@ pub fn profile(alloc: Global, options: ProfileOptions, input: &[u8]) -> Result<T
 {
     let (image, run) = recording_in(alloc, input)?;
     well_formed_is_placed();
-    profile_by(alloc, options, &image, &run).map_err(|_| Status::Memory)
+    match profile_by(alloc, options, &image, &run) {
+        Ok(text) => Ok(text),
+        Err(_) => Err(Status::Memory),
+    }
 }
 
 /// The first breach of a recorded run by this discipline of uses, or the status of the recording's first fault.
@@ -111,7 +123,10 @@ pub fn uses(alloc: Global, discipline: Discipline, input: &[u8]) -> Result<Text,
     ensures refused { IfErr result (λ status. status ≢ Status.Memory → recording_refusal input.now ≡ Some status) }
 {
     let (image, run) = recording_in(alloc, input)?;
-    uses_text(alloc, discipline, &image, &run).map_err(|_| Status::Memory)
+    match uses_text(alloc, discipline, &image, &run) {
+        Ok(text) => Ok(text),
+        Err(_) => Err(Status::Memory),
+    }
 }
 
 /// What is said of these secrets in a recorded run, or the status of the recording's first fault.
@@ -121,7 +136,10 @@ pub fn secrets(alloc: Global, options: &SecretOptions, input: &[u8]) -> Result<T
 {
     let (image, run) = recording_in(alloc, input)?;
     let (secret, public) = (options.secret.as_slice(), options.public.as_slice());
-    secrets_text(alloc, &image, &run, secret, public).map_err(|_| Status::Memory)
+    match secrets_text(alloc, &image, &run, secret, public) {
+        Ok(text) => Ok(text),
+        Err(_) => Err(Status::Memory),
+    }
 }
 
 // What is asked for of a turn.
