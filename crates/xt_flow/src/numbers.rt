@@ -7,55 +7,41 @@ ghost use Rattle.xt_word.specs.Hexadecimal.{hex8};
 ghost use Rattle.xt_flow.specs.Sources.{byte_words, data_count, data_words, numbers, source_line, source_lines, space_words, word_words, zero_words};
 
 use crate::listing::{push_list, word_of};
-use std::alloc::{AllocError, Global};
+use std::alloc::AllocError;
 use std::fmt::Write;
 use xt_word::push_hex8;
 
-/// Appends the line of an address, `WORDS # ADDR`.
-pub fn push_source_line(
-    alloc: Global,
-    out: &mut Vec<u8>,
-    at: u32,
-    words: &[u8],
-) -> Result<(), AllocError>
-    ensures { OnOk result (out.new.items ≡ out.old.items ++ source_line at words.now) }
+/// Appends the end of a line: its address, ` # ADDR`.
+pub fn push_place(out: &mut String, at: u32) -> Result<(), AllocError>
+    ensures { OnOk result (string_bytes out.new ≡ string_bytes out.old ++ (codes " # " ++ hex8 at ++ codes "\n")) }
 {
-    let mut behind = String::new(alloc);
-    behind.push_str(" # ")?;
-    push_hex8(&mut behind, at)?;
-    behind.push_str("\n")?;
-    out.extend_from_slice(words)?;
-    out.extend_from_slice(behind.as_bytes())
+    out.push_str(" # ")?;
+    push_hex8(out, at)?;
+    out.push_str("\n")
 }
 
-/// `.byte` with these bytes.
-pub fn byte_words(alloc: Global, bytes: &[u8]) -> Result<String, AllocError>
-    ensures { IfOk result (λ words. string_bytes words ≡ byte_words bytes.now) }
+/// Appends `.byte` with these bytes.
+pub fn push_byte_words(out: &mut String, bytes: &[u8]) -> Result<(), AllocError>
+    ensures { OnOk result (string_bytes out.new ≡ string_bytes out.old ++ byte_words bytes.now) }
 {
-    let mut out = String::new(alloc);
     out.push_str(".byte ")?;
-    push_list(&mut out, bytes)?;
-    Ok(out)
+    push_list(out, bytes)
 }
 
-/// `.word` with the number that four bytes make.
-pub fn word_words(alloc: Global, bytes: &[u8]) -> Result<String, AllocError>
+/// Appends `.word` with the number that four bytes make.
+pub fn push_word_words(out: &mut String, bytes: &[u8]) -> Result<(), AllocError>
     requires { length bytes.now ≡ 4 }
-    ensures { IfOk result (λ words. string_bytes words ≡ word_words bytes.now) }
+    ensures { OnOk result (string_bytes out.new ≡ string_bytes out.old ++ word_words bytes.now) }
 {
-    let mut out = String::new(alloc);
     out.push_str(".word 0x")?;
-    push_hex8(&mut out, word_of(bytes))?;
-    Ok(out)
+    push_hex8(out, word_of(bytes))
 }
 
-/// `.space` with a number of zeros.
-pub fn space_words(alloc: Global, count: usize) -> Result<String, AllocError>
-    ensures { IfOk result (λ words. string_bytes words ≡ space_words count) }
+/// Appends `.space` with a number of zeros.
+pub fn push_space_words(out: &mut String, count: usize) -> Result<(), AllocError>
+    ensures { OnOk result (string_bytes out.new ≡ string_bytes out.old ++ space_words count) }
 {
-    let mut out = String::new(alloc);
-    write!(out, ".space {count}")?;
-    Ok(out)
+    write!(out, ".space {count}")
 }
 
 /// How many zero bytes come first.
@@ -63,7 +49,12 @@ fn zeros(bytes: &[u8]) -> usize
     ensures is { result ≡ prefix_len (λ b. b == 0) bytes.now }
     ensures few { result ≤ length bytes.now }
 {
-    bytes.iter().take_while(|byte| **byte == 0).count()
+    for (i, byte) in bytes.iter().enumerate() {
+        if *byte != 0 {
+            return i;
+        }
+    }
+    bytes.len()
 }
 
 /// How many bytes are in the words of zeros that come first.
@@ -74,50 +65,48 @@ fn zero_words(bytes: &[u8]) -> usize
     zeros(bytes) / 4 * 4
 }
 
-/// The words of the first line of the bytes, and how many of them it shows.
+/// Appends the words of the first line of the bytes, and answers how many of them it shows.
 #[tactic(auto, unfolding(crate::specs::Sources::data_words, crate::specs::Sources::data_count))]
-fn data_words(alloc: Global, bytes: &[u8]) -> Result<(String, usize), AllocError>
-    requires { 0 < length bytes.now }
-    ensures words { IfOk result (λ r. string_bytes r.0 ≡ data_words bytes.now) }
-    ensures count { IfOk result (λ r. r.1 ≡ data_count bytes.now) }
-    ensures few { IfOk result (λ r. (0 < r.1) × (r.1 ≤ length bytes.now)) }
-{
-    let zeros = zero_words(bytes);
-    if zeros >= 8 {
-        return Ok((space_words(alloc, zeros)?, zeros));
-    }
-    if bytes.len() >= 4 {
-        return Ok((word_words(alloc, &bytes[..4])?, 4));
-    }
-    Ok((byte_words(alloc, bytes)?, bytes.len()))
-}
-
-/// Appends the first line of the bytes, which stand at an address, and answers how many of them it shows.
-fn push_first(alloc: Global, out: &mut Vec<u8>, at: u32, bytes: &[u8]) -> Result<usize, AllocError>
+fn push_data(out: &mut String, bytes: &[u8]) -> Result<usize, AllocError>
     requires { 0 < length bytes.now }
     ensures shown { IfOk result (λ n. n ≡ data_count bytes.now) }
     ensures few { IfOk result (λ n. (0 < n) × (n ≤ length bytes.now)) }
-    ensures text { OnOk result (out.new.items ≡ out.old.items ++ source_line at (data_words bytes.now)) }
+    ensures text { OnOk result (string_bytes out.new ≡ string_bytes out.old ++ data_words bytes.now) }
 {
-    let (words, shown) = data_words(alloc, bytes)?;
-    push_source_line(alloc, out, at, words.as_bytes())?;
+    let zeros = zero_words(bytes);
+    if zeros >= 8 {
+        push_space_words(out, zeros)?;
+        return Ok(zeros);
+    }
+    if bytes.len() >= 4 {
+        push_word_words(out, &bytes[..4])?;
+        return Ok(4);
+    }
+    push_byte_words(out, bytes)?;
+    Ok(bytes.len())
+}
+
+/// Appends the first line of the bytes, which stand at an address, and answers how many of them it shows.
+fn push_first(out: &mut String, at: u32, bytes: &[u8]) -> Result<usize, AllocError>
+    requires { 0 < length bytes.now }
+    ensures shown { IfOk result (λ n. n ≡ data_count bytes.now) }
+    ensures few { IfOk result (λ n. (0 < n) × (n ≤ length bytes.now)) }
+    ensures text { OnOk result (string_bytes out.new ≡ string_bytes out.old ++ source_line at (data_words bytes.now)) }
+{
+    let shown = push_data(out, bytes)?;
+    push_place(out, at)?;
     Ok(shown)
 }
 
 /// Appends the lines of bytes that are no code, which stand at an address.
-pub fn push_numbers(
-    alloc: Global,
-    out: &mut Vec<u8>,
-    at: u32,
-    bytes: &[u8],
-) -> Result<(), AllocError>
+pub fn push_numbers(out: &mut String, at: u32, bytes: &[u8]) -> Result<(), AllocError>
     requires { at + length bytes.now < 2 ^ 32 }
-    ensures { OnOk result (out.new.items ≡ out.old.items ++ source_lines numbers at bytes.now) }
+    ensures { OnOk result (string_bytes out.new ≡ string_bytes out.old ++ source_lines numbers at bytes.now) }
 {
     let mut rest = bytes;
     let mut address = at;
     while !rest.is_empty() {
-        let shown = push_first(alloc, out, address, rest)?;
+        let shown = push_first(out, address, rest)?;
         address += shown as u32;
         rest = &rest[shown..];
     }

@@ -23,12 +23,21 @@ const VECTOR_OFFSETS: [u32; 13] = [
 ];
 
 /// What a walk has found.
-#[derive(Drop)]
 pub struct Visited {
     /// The table of the addresses at which an instruction starts.
     pub starts: Vec<bool>,
     /// The table of the addresses in code at which an L32R reads a word.
     pub reads: Vec<bool>,
+}
+
+// A `drop` of its own is one call at each place where a value is dropped.
+impl Drop for Visited {
+    fn drop(self) {
+        let Visited {
+            starts: _,
+            reads: _,
+        } = self;
+    }
 }
 
 /// Adds the addresses of vectors by their distance from VECBASE; addresses wrap at 2^32.

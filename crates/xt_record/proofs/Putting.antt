@@ -1,5 +1,5 @@
 -- Words and bytes that are written one by one.
-use Rattle.std.proofs.Common.{◌≡◌, ℕ, ◌+◌, ◌*◌, ◌/◌, ◌%◌, ◌<◌, ◌≤◌, List, [], ◌∷◌, ◌++◌, length, map, sym, ap, ◌∙◌, append_assoc, arith}
+use Rattle.std.proofs.Common.{◌≡◌, ℕ, ◌+◌, ◌*◌, ◌/◌, ◌%◌, ◌<◌, ◌≤◌, List, [], ◌∷◌, ◌++◌, length, map, refl, sym, ap, ◌∙◌, append_assoc, arith}
 use Rattle.std.specs.Prelude.{slice_index}
 use Rattle.std.specs.List.{concat, flat_map, range_with_len}
 use Rattle.std.specs.Int.{w32, to_le_bytes}
@@ -50,21 +50,42 @@ registers_all regs i old now from to is =
 joined : (now part next behind new : List ℕ) → next ≡ now ++ part → new ≡ next ++ behind → new ≡ now ++ (part ++ behind)
 joined now part next behind new is after = after ∙ ap (λ (l : List ℕ). l ++ behind) is ∙ append_assoc now part behind
 
-pub state_joined : (step : ℕ) (s : State) (old l1 l2 l3 l4 l5 l6 l7 l8 : List ℕ)
+-- those before PS
+abbrev pub first_numbers : List ℕ
+first_numbers = loop_numbers ++ br ∷ saved_numbers
+
+first_parts : (special : List ℕ) → special_bytes special first_numbers ≡ special_bytes special loop_numbers ++ (words (slice_index special br ∷ []) ++ special_bytes special saved_numbers)
+unfolding special_bytes
+first_parts special = refl
+
+regrouped : (a b l x s p t u : List ℕ) → ((((a ++ b) ++ (l ++ (x ++ s))) ++ p) ++ t) ++ u ≡ a ++ b ++ l ++ x ++ s ++ p ++ t ++ u
+regrouped a b l x s p t u = simp append_assoc
+
+pub state_joined : (step : ℕ) (s : State) (old l1 l2 l3 l4 l5 l6 : List ℕ)
     → l1 ≡ old ++ words (s.control.pc ∷ bit_of s.control.waits ∷ step ∷ s.base ∷ s.start ∷ [])
     → l2 ≡ l1 ++ file_bytes s.regs
-    → l3 ≡ l2 ++ special_bytes s.control.special loop_numbers
-    → l4 ≡ l3 ++ words (slice_index s.control.special br ∷ [])
-    → l5 ≡ l4 ++ special_bytes s.control.special saved_numbers
-    → l6 ≡ l5 ++ words (ps_word s.control.ps ∷ [])
-    → l7 ≡ l6 ++ special_bytes s.control.special last_numbers
-    → l8 ≡ l7 ++ words (s.control.threadptr ∷ [])
-    → l8 ≡ old ++ state_bytes step s
+    → l3 ≡ l2 ++ special_bytes s.control.special first_numbers
+    → l4 ≡ l3 ++ words (ps_word s.control.ps ∷ [])
+    → l5 ≡ l4 ++ special_bytes s.control.special last_numbers
+    → l6 ≡ l5 ++ words (s.control.threadptr ∷ [])
+    → l6 ≡ old ++ state_bytes step s
 unfolding state_bytes
-state_joined step s old l1 l2 l3 l4 l5 l6 l7 l8 e1 e2 e3 e4 e5 e6 e7 e8 =
-    let to3 = joined old _ l2 _ l3 (joined old _ l1 _ l2 e1 e2) e3 in
+state_joined step s old l1 l2 l3 l4 l5 l6 e1 e2 e3 e4 e5 e6 =
+    let special = s.control.special in
+    let loops = special_bytes special loop_numbers in
+    let booleans = words (slice_index special br ∷ []) in
+    let saved = special_bytes special saved_numbers in
+    let first : l3 ≡ l2 ++ (loops ++ (booleans ++ saved)) = e3 ∙ ap (λ (l : List ℕ). l2 ++ l) (first_parts special) in
+    let to2 = joined old _ l1 _ l2 e1 e2 in
+    let to3 = joined old _ l2 _ l3 to2 first in
     let to5 = joined old _ l4 _ l5 (joined old _ l3 _ l4 to3 e4) e5 in
-    let to7 = joined old _ l6 _ l7 (joined old _ l5 _ l6 to5 e6) e7 in joined old _ l7 _ l8 to7 e8
+    let opening = words (s.control.pc ∷ bit_of s.control.waits ∷ step ∷ s.base ∷ s.start ∷ []) in
+    let ps = words (ps_word s.control.ps ∷ []) in
+    let last = special_bytes special last_numbers in
+    let thread = words (s.control.threadptr ∷ []) in
+    let same : ((((opening ++ file_bytes s.regs) ++ (loops ++ (booleans ++ saved))) ++ ps) ++ last) ++ thread ≡ state_bytes step s =
+    regrouped opening (file_bytes s.regs) loops booleans saved ps last thread in
+    joined old _ l5 _ l6 to5 e6 ∙ ap (λ (l : List ℕ). old ++ l) same
 
 pub recording_joined : (file : List ℕ) (r : Run) (points : List (List ℕ)) (old l1 l2 l3 l4 l5 l6 l7 l8 : List ℕ)
     → l1 ≡ old ++ magic

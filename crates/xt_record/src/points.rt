@@ -15,10 +15,12 @@ use xt_window::Windows;
 /// How many bytes a checkpoint has.
 pub(crate) const POINT_SIZE: usize = 353_152;
 
-// The special registers that a checkpoint has, in the order of their numbers.
-const LOOP_NUMBERS: [u8; 3] = [number::LBEG, number::LEND, number::LCOUNT];
-
-const SAVED_NUMBERS: [u8; 25] = [
+// The special registers that a checkpoint has before PS and after it, in the order of their numbers but for BR.
+const FIRST_NUMBERS: [u8; 29] = [
+    number::LBEG,
+    number::LEND,
+    number::LCOUNT,
+    number::BR,
     number::SAR,
     number::SCOMPARE1,
     number::EPC1,
@@ -93,9 +95,7 @@ fn put_state(out: &mut Vec<u8>, step: u32, regs: &Regs<OwnFile>) -> Result<(), A
     let (base, start) = (win.base() as u32, win.start() as u32);
     put_words(out, &[regs.pc, regs.waiting as u32, step, base, start])?;
     put_file(out, win)?;
-    put_registers(out, special, &LOOP_NUMBERS)?;
-    put_words(out, &[special.register(number::BR)])?;
-    put_registers(out, special, &SAVED_NUMBERS)?;
+    put_registers(out, special, &FIRST_NUMBERS)?;
     put_words(out, &[special.ps()])?;
     put_registers(out, special, &LAST_NUMBERS)?;
     put_words(out, &[special.threadptr()])?;

@@ -10,8 +10,7 @@ use std::alloc::AllocError;
 pub(crate) fn put_word(out: &mut Vec<u8>, value: u32) -> Result<(), AllocError>
     ensures { OnOk result (out.new.items ≡ out.old.items ++ to_le_bytes w32 value) }
 {
-    out.extend_from_slice(&value.to_le_bytes())?;
-    Ok(())
+    out.extend_from_slice(&value.to_le_bytes())
 }
 
 /// Writes words, least byte first.

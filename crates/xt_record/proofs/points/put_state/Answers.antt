@@ -1,6 +1,4 @@
 use Rattle.std.proofs.Common.{◌≡◌, [], ◌∷◌, ◌++◌, rules}
-use Rattle.std.specs.Prelude.{slice_index}
-use Rattle.xt_isa.specs.Numbers.{br}
 use Rattle.xt_special.specs.Control.{bit_of, ps_word}
 use Rattle.xt_exec.specs.States.{file_state}
 use Rattle.xt_record.specs.Fields.{words}
@@ -12,9 +10,8 @@ returns c =
     let s = file_state c.args.regs.now in
     let head : c.put_words.new.out.items ≡ c.args.out.now.items ++ words (s.control.pc ∷ bit_of s.control.waits ∷ c.args.step ∷ s.base ∷ s.start ∷ []) =
     search rules in
-    let booleans : c.put_words-2.new.out.items ≡ c.put_registers.new.out.items ++ words (slice_index s.control.special br ∷ []) = search rules in
-    let ps : c.put_words-3.new.out.items ≡ c.put_registers-2.new.out.items ++ words (ps_word s.control.ps ∷ []) = search rules in
-    let last : c.put_words-4.new.out.items ≡ c.put_registers-3.new.out.items ++ words (s.control.threadptr ∷ []) = search rules in
-    state_joined c.args.step s c.args.out.now.items c.put_words.new.out.items c.put_file.new.out.items c.put_registers.new.out.items c.put_words-2.new.out.items
-    c.put_registers-2.new.out.items c.put_words-3.new.out.items c.put_registers-3.new.out.items c.put_words-4.new.out.items
-    head c.in_ok-put_file.ensures c.in_ok-put_registers.ensures booleans c.in_ok-put_registers-2.ensures ps c.in_ok-put_registers-3.ensures last
+    let ps : c.put_words-2.new.out.items ≡ c.put_registers.new.out.items ++ words (ps_word s.control.ps ∷ []) = search rules in
+    let last : c.put_words-3.new.out.items ≡ c.put_registers-2.new.out.items ++ words (s.control.threadptr ∷ []) = search rules in
+    state_joined c.args.step s c.args.out.now.items c.put_words.new.out.items c.put_file.new.out.items c.put_registers.new.out.items
+    c.put_words-2.new.out.items c.put_registers-2.new.out.items c.put_words-3.new.out.items
+    head c.in_ok-put_file.ensures c.in_ok-put_registers.ensures ps c.in_ok-put_registers-2.ensures last

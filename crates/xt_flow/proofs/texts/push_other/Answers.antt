@@ -4,7 +4,7 @@ use Rattle.xt_flow.specs.FlowTables.{is_marked, marks_of}
 use Rattle.xt_flow.specs.Printing.{byte_run, is_byte, is_space, is_word, zero_run}
 use Rattle.xt_flow.proofs.Runs.{run_some}
 use Rattle.xt_flow.proofs.Walks.{byte_left}
-use Rattle.xt_flow.proofs.texts.other_words.Goals as goal
+use Rattle.xt_flow.proofs.texts.push_other.Goals as goal
 
 pub returns-clause-few : goal.returns-clause-few
 returns-clause-few c =
