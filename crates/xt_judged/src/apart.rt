@@ -4,6 +4,7 @@ ghost use Rattle.std.specs.Prelude.{◌≡◌, ◌<◌, true, IfOk};
 ghost use Rattle.xt_map.specs.Placing.{IsPlaced};
 ghost use Rattle.xt_trace.specs.Validity.{IsValid};
 ghost use Rattle.xt_image.specs.ImageParts.{FitsImage};
+ghost use Rattle.xt_core.specs.Runs.{memory_of};
 ghost use Rattle.xt_discipline.specs.Verdicts.{are_checked};
 ghost use Rattle.xt_judged.specs.Kept.{IsTree};
 ghost use Rattle.xt_judged.specs.Runs.{AllAreWhole};
@@ -45,6 +46,31 @@ impl Drop for OwnSearch<'_> {
     }
 }
 
+// What a machine of an image finds, at most so much. The only error is running out of memory.
+fn searched(
+    alloc: Global,
+    machine: &Watching,
+    image: &Image,
+    options: &Options,
+    timed: bool,
+    desk: &mut Desk,
+    most: u32,
+) -> Result<Graph<Watched>, AllocError>
+    requires valid { IsValid options.now }
+    requires fits { FitsImage image.now }
+    requires code { machine.now.timed.code ≡ image.now.segments }
+    requires memory { machine.now.timed.opening.contents ≡ memory_of image.now options.now }
+    requires is_timed { machine.now.timed.timed ≡ timed }
+    requires stack0 { machine.now.stack0 ≡ options.now.stack0 }
+    requires stack1 { machine.now.stack1 ≡ options.now.stack1 }
+    ensures search { IfOk result (λ g. IsSearch image.now options.now timed (record { machine = machine.now; graph = g })) }
+    ensures tree { IfOk result (λ g. IsTree g) }
+{
+    let opening = open_watched(alloc, image, options, timed)?;
+    let graph = search(alloc, machine, desk, opening, most)?;
+    Ok(graph)
+}
+
 // A search by these places. The only error is running out of memory.
 fn search_by<'a>(
     alloc: Global,
@@ -69,8 +95,7 @@ fn search_by<'a>(
         most_local: MOST_LOCAL,
         alloc,
     };
-    let opening = open_watched(alloc, image, options, timed)?;
-    let graph = search(alloc, &machine, desk, opening, most)?;
+    let graph = searched(alloc, &machine, image, options, timed, desk, most)?;
     Ok(OwnSearch { machine, graph })
 }
 

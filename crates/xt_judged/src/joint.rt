@@ -3,6 +3,7 @@ ghost use Rattle.std.specs.Prelude.{◌≡◌, true, IfOk};
 ghost use Rattle.xt_map.specs.Placing.{IsPlaced};
 ghost use Rattle.xt_trace.specs.Validity.{IsValid};
 ghost use Rattle.xt_image.specs.ImageParts.{FitsImage};
+ghost use Rattle.xt_core.specs.Runs.{memory_of};
 ghost use Rattle.xt_discipline.specs.Verdicts.{are_checked};
 ghost use Rattle.xt_judged.specs.Kept.{IsTree};
 ghost use Rattle.xt_judged.specs.Runs.{AllAreWhole};
@@ -37,6 +38,29 @@ impl Drop for JointSearch<'_> {
     }
 }
 
+// The scenes that a machine of an image finds, at most so many. The only error is running out of memory.
+fn searched(
+    alloc: Global,
+    machine: &Judging,
+    image: &Image,
+    options: &Options,
+    timed: bool,
+    desk: &mut Desk,
+    most: u32,
+) -> Result<Graph<Scene>, AllocError>
+    requires valid { IsValid options.now }
+    requires fits { FitsImage image.now }
+    requires code { machine.now.timed.code ≡ image.now.segments }
+    requires memory { machine.now.timed.opening.contents ≡ memory_of image.now options.now }
+    requires is_timed { machine.now.timed.timed ≡ timed }
+    ensures search { IfOk result (λ g. IsSearch image.now options.now timed (record { machine = machine.now; graph = g })) }
+    ensures tree { IfOk result (λ g. IsTree g) }
+{
+    let opening = open(alloc, image, options, timed)?;
+    let graph = search(alloc, machine, desk, opening, most)?;
+    Ok(graph)
+}
+
 /// The scenes of an image, at most so many. The only error is running out of memory.
 ///
 /// Conditions: the options are valid, and the image's segments lie in one region each and share no
@@ -60,8 +84,7 @@ pub fn search_scenes<'a>(
         most_alone: MOST_ALONE,
         alloc,
     };
-    let opening = open(alloc, image, options, timed)?;
-    let graph = search(alloc, &machine, desk, opening, most)?;
+    let graph = searched(alloc, &machine, image, options, timed, desk, most)?;
     Ok(JointSearch { machine, graph })
 }
 

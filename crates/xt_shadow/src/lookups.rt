@@ -84,11 +84,17 @@ fn look_up(code: &Constants, pc: u32) -> Lookup
 }
 
 /// The code, and what was looked up in it. Contracts see the segments of the code.
-#[derive(Drop)]
 pub struct Lookups<'a> {
     code: Constants<'a>,
     // At each place what stands at an address with this rest.
     places: Vec<Lookup>,
+}
+
+// A `drop` of its own is one call at each place where a value is dropped.
+impl Drop for Lookups<'_> {
+    fn drop(self) {
+        let Lookups { code: _, places: _ } = self;
+    }
 }
 
 impl<'a> Model for Lookups<'a> {

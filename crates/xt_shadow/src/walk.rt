@@ -20,13 +20,24 @@ use xt_map::Constants;
 use xt_trace::Run;
 
 /// The judge so far: both cores past the turns that were made, and what is known of memory.
-#[derive(Drop)]
 pub struct ShadowWalk<'a> {
     pub code: Lookups<'a>,
     pub side0: ShadowCore<'a>,
     pub side1: ShadowCore<'a>,
     /// What is known of each byte of internal data memory.
     pub marks: Vec<Held>,
+}
+
+// A `drop` of its own is one call at each place where a value is dropped.
+impl Drop for ShadowWalk<'_> {
+    fn drop(self) {
+        let ShadowWalk {
+            code: _,
+            side0: _,
+            side1: _,
+            marks: _,
+        } = self;
+    }
 }
 
 impl<'a> ShadowWalk<'a> {
