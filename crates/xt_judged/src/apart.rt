@@ -53,7 +53,7 @@ fn searched(
     image: &Image,
     options: &Options,
     timed: bool,
-    desk: &mut Desk,
+    desk: &mut SceneDesk,
     most: u32,
 ) -> Result<Graph<Watched>, AllocError>
     requires valid { IsValid options.now }

@@ -45,7 +45,7 @@ fn searched(
     image: &Image,
     options: &Options,
     timed: bool,
-    desk: &mut Desk,
+    desk: &mut SceneDesk,
     most: u32,
 ) -> Result<Graph<Scene>, AllocError>
     requires valid { IsValid options.now }
