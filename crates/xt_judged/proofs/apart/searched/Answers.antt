@@ -1,5 +1,4 @@
-use Rattle.std.proofs.Common.{◌≡◌, ℕ, Bool, subst}
-use Rattle.xt_map.specs.declared.contents.MemoryContents.{MemoryContents}
+use Rattle.std.proofs.Common.{ℕ, subst}
 use Rattle.xt_map.specs.Memory.{constant_byte}
 use Rattle.xt_search.specs.Graphs.{IsGraph}
 use Rattle.xt_core.specs.Runs.{memory_of}
