@@ -30,7 +30,9 @@ fn are_same_between(a: &Special, b: &Special, from: u32, to: u32) -> bool
 
 impl FrameRegisters {
     /// Whether the control state is seen to be this but for EPC1.
-    fn is_level(&self, pc: u32, waits: bool, special: &Special) -> bool
+    ///
+    /// Condition: both have 256 special registers.
+    pub fn is_level(&self, pc: u32, waits: bool, special: &Special) -> bool
         requires own { length self.now.control.special ≡ 256 }
         requires others { length special.now.file ≡ 256 }
         ensures { result ≡ true → self.now.control ≡ with_epc1 (special_of self.now.control (numbers.epc 1)) (control_at pc waits special.now) }
@@ -46,7 +48,7 @@ impl FrameRegisters {
     }
 
     /// Takes these registers, and this control state but for EPC1.
-    fn bring_level(&mut self, pc: u32, waits: bool, special: &Special, seen: &Seen)
+    pub fn bring_level(&mut self, pc: u32, waits: bool, special: &Special, seen: &Seen)
         ensures { self.new ≡ record self.old { seen = seen.now; control = with_epc1 (special_of self.old.control (numbers.epc 1)) (control_at pc waits special.now) } }
     {
         let epc1 = self.special.register(number::EPC1);

@@ -88,7 +88,7 @@ interrupt_count level c =
     (exception_count interrupt_cause None c)
     (two_count c.special (176 + level) (192 + level) c.pc (ps_word c.ps))
 
-outcome_count : (o : Outcome) (len : ℕ) (c : Control) → count (after_outcome o len c).control ≡ count c
+pub outcome_count : (o : Outcome) (len : ℕ) (c : Control) → count (after_outcome o len c).control ≡ count c
 outcome_count (Does e) len c = tick_count (after_effect e len c) ∙ effect_count e len c
 outcome_count (Raises cause address) len c = tick_count (after_exception cause address c) ∙ exception_count cause address c
 outcome_count (Asks a w e) len c = tick_count (after_effect e len c) ∙ effect_count e len c
@@ -221,13 +221,13 @@ fetched_count (Fetches i len) code reply g = done_count (outcome_at code i (valu
 fetched_count (Fails address) code reply g = raised_count 2 (Some address) g.control
 fetched_count SpellsNothing code reply g = raised_count 0 None g.control
 
-laid_count : (code : ℕ → ℕ) (reply : ℕ) (g : FrameState) → KeepsCount g (step_with_inputs code reply g)
+pub laid_count : (code : ℕ → ℕ) (reply : ℕ) (g : FrameState) → KeepsCount g (step_with_inputs code reply g)
 unfolding step_with_inputs
 laid_count code reply g =
     turn_if (KeepsCount g) (ltb 0 (pending_of g.control)) _ _ (taken_count (pending_of g.control) g.control)
     (turn_if (KeepsCount g) g.control.waits _ _ (tick_count g.control) (fetched_count (fetch_at code g.control.pc) code reply g))
 
-inputs_count : (inp : Inputs) (f : FrameState) → count (with_inputs inp f).control ≡ count f.control
+pub inputs_count : (inp : Inputs) (f : FrameState) → count (with_inputs inp f).control ≡ count f.control
 inputs_count inp f = two_count f.control.special 234 226 inp.ccount inp.interrupt
 
 -- ---- numbers
@@ -246,7 +246,7 @@ by_none : (o : Option (ℕ × ℕ)) → unset_by o [] all_set ≡ all_set
 by_none None = refl
 by_none (Some p) = cleared p.1
 
-after_none : (k : StepKind) (at : Fetched) → unset_after k at all_set ≡ all_set
+pub after_none : (k : StepKind) (at : Fetched) → unset_after k at all_set ≡ all_set
 after_none (kind.Interrupt level) at = ap (λ (l : List Bool). set l (192 + level) false) (cleared (176 + level)) ∙ cleared (192 + level)
 after_none kind.Insn (Fetches i len) = by_none (moved_to i)
 after_none kind.Insn (Fails address) = refl

@@ -177,7 +177,7 @@ module _ (code : ℕ → ℕ) (f : FrameState) (seen : List (Option ℕ)) (vecba
         still_in : IsStill limits code r.i r.len h v
         still_in = record { plain = still.plain; rest = record { quiet = still.rest.quiet; goes = still.rest.goes; excm = still.rest.excm; vectors = still.rest.vectors; outside = still.rest.outside }; at = still.at }
 
-        over : IsOver limits fresh code rec h rec.write v v w
+        pub over : IsOver limits fresh code rec h rec.write v v w
         over = record { plain = plain; over = laid; quick = quick_or (Some rec.write) limits fresh code rec h v w r.i r.len still_in row }
 
         pub judged : (core next index : ℕ) (was : Bool) (frames : List Frame) (live dead : ℕ → Bool) (y : Walked)

@@ -1,12 +1,12 @@
 mod Bystander
-mod Executed
-mod Counts
-mod InStep
-mod Stepping
+pub mod Executed
+pub mod Counts
+pub mod InStep
+pub mod Stepping
 mod Whole
 mod Turning
 mod Walking
-mod Opened
-mod Making
-mod Saw
+pub mod Opened
+pub mod Making
+pub mod Saw
 mod Silent

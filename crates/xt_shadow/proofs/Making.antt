@@ -103,7 +103,7 @@ made_reply : (code : ℕ → ℕ) (s t : State) (rs : List ℕ) (rec : StepRecor
 unfolding turn
 made_reply code s t rs rec e = ap (λ (x : StepRecord × State). x.0.reply) e ∙ same_reply (demand code s) rs
 
-made_state : (code : ℕ → ℕ) (s t : State) (rs : List ℕ) (rec : StepRecord) → ◌≡◌ {A = StepRecord × State} (rec, t) (turn code s (reply_for (demand code s) rs)) → ◌≡◌ {A = StepRecord × State} (rec, t) (turn code s rec.reply)
+pub made_state : (code : ℕ → ℕ) (s t : State) (rs : List ℕ) (rec : StepRecord) → ◌≡◌ {A = StepRecord × State} (rec, t) (turn code s (reply_for (demand code s) rs)) → ◌≡◌ {A = StepRecord × State} (rec, t) (turn code s rec.reply)
 made_state code s t rs rec e = e ∙ ap (λ (v : ℕ). turn code s v) (sym (made_reply code s t rs rec e))
 
 trace_step : {S : Type 0} (P : Chip S) (s : S) (n : ℕ) (rs : List ℕ)
@@ -118,7 +118,7 @@ trace_step {S = S} P s n rs =
     let same : (b : Bool) → more b ≡ after b = elim [ true ↦ refl | false ↦ refl ] in
     ap (λ (xs : List StepRecord). t.0 ∷ xs) (same (is_stop t.0.kind))
 
-made_records : (code : ℕ → ℕ) (s t : State) (left left2 : ℕ) (rs qs : List ℕ) (rec : StepRecord) → 0 < left → ◌≡◌ {A = StepRecord × State} (rec, t) (turn code s (reply_for (demand code s) rs))
+pub made_records : (code : ℕ → ℕ) (s t : State) (left left2 : ℕ) (rs qs : List ℕ) (rec : StepRecord) → 0 < left → ◌≡◌ {A = StepRecord × State} (rec, t) (turn code s (reply_for (demand code s) rs))
     → qs ≡ replies_past (demand code s) rs → left2 ≡ left_past rec (left - 1) → (trace_over (processor code) s left rs).records ≡ rec ∷ (trace_over (processor code) t left2 qs).records
 made_records code s t zero left2 rs qs rec some step others lefts = absurd (omega arith)
 made_records code s t (suc n) left2 rs qs rec some step others lefts =

@@ -28,13 +28,13 @@ use Rattle.xt_shadow.specs.InStep.{IsPlain}
 use Rattle.xt_shadow.specs.Shadows.{IsCore, IsOpenedCore, IsOpenedWalk, records_left, shown_walk}
 use Rattle.xt_shadow.proofs.Turning.{shown_whole}
 
-special_count : (prid vecbase : ℕ) → length (opening_special prid vecbase) ≡ 256
+pub special_count : (prid vecbase : ℕ) → length (opening_special prid vecbase) ≡ 256
 unfolding opening_special no_special
 special_count prid vecbase =
     length-set (set (replicate 256 0) 235 prid) 231 vecbase
     ∙ (length-set (replicate 256 0) 235 prid ∙ length-replicate {A = ℕ} 256 0)
 
-state_count : (core pc vecbase stack_end : ℕ) → length (opening_state core pc vecbase stack_end).control.special ≡ 256
+pub state_count : (core pc vecbase stack_end : ℕ) → length (opening_state core pc vecbase stack_end).control.special ≡ 256
 unfolding opening_state
 state_count core pc vecbase stack_end = special_count (prid_of core) vecbase
 

@@ -5,6 +5,7 @@ ghost use Rattle.std.specs.Prelude.{◌≡◌, true};
 ghost use Rattle.xt_frames.specs.Quick.{IsCommon};
 ghost use Rattle.xt_frames.specs.Breaches.{is_in_vectors, is_sp};
 ghost use Rattle.xt_shadow.specs.InStep.{IsNoEpc1};
+ghost use Rattle.xt_shadow.specs.Lookups.{IsOperand};
 ghost use Rattle.xt_trace.specs.declared.record.StepKind.TheVariants as kinds;
 
 use xt_isa::Insn;
@@ -57,6 +58,17 @@ pub fn is_no_epc1(register: Option<u8>) -> bool
 {
     match register {
         Some(n) => n != number::EPC1,
+        None => true,
+    }
+}
+
+/// Whether a special register, if there is one, is SAR, BR or SCOMPARE1.
+#[inline(always)]
+pub fn is_operand(register: Option<u8>) -> bool
+    ensures { result ≡ true → IsOperand register }
+{
+    match register {
+        Some(n) => n == number::SAR || n == number::BR || n == number::SCOMPARE1,
         None => true,
     }
 }

@@ -12,4 +12,7 @@ mod replies;
 mod seeing;
 mod walk;
 
+pub use instructions::{is_executed, is_in_vectors, is_sp};
 pub use judging::judge_run;
+pub use lookups::{Lookup, Lookups};
+pub use replies::Replies;

@@ -9,7 +9,7 @@ ghost use Rattle.xt_shadow.specs.Lookups.{IsLookup, IsPlainInsn};
 ghost use Rattle.xt_shadow.specs.declared.lookups.Lookup.{Lookup};
 
 use crate::file::ShadowFile;
-use crate::instructions::{is_common, is_no_epc1};
+use crate::instructions::{is_common, is_no_epc1, is_operand};
 use std::alloc::{AllocError, Global};
 use std::marker::Model;
 use xt_codec::{Fetch, instruction_at};
@@ -32,18 +32,20 @@ pub struct Lookup {
     pub second: Option<u8>,
     /// Up to how many windows ahead the instruction's registers lie.
     pub ahead: u8,
-    /// Whether no breach names the instruction, it is no system instruction, and it does not read
-    /// EPC1.
+    /// Whether no breach names the instruction, it is no system instruction, and it reads no special
+    /// register but SAR, BR and SCOMPARE1.
     pub is_plain: bool,
 }
 
-// Whether no breach names an instruction, it is no system instruction, and it does not read EPC1.
+// Whether no breach names an instruction, it is no system instruction, and it reads no special
+// register but SAR, BR and SCOMPARE1. All that no breach names and that are no system instructions
+// read no other.
 fn is_plain(i: Insn) -> bool
     requires { in_range i ≡ true }
     ensures { result ≡ true → IsPlainInsn i }
 {
     let (special, other) = special_reads(i);
-    is_common(i) && is_no_epc1(special) && is_no_epc1(other)
+    is_common(i) && is_no_epc1(special) && is_no_epc1(other) && is_operand(special)
 }
 
 // What is tested of an instruction.

@@ -2,7 +2,6 @@
 use Rattle.std.proofs.Common.{◌≡◌, ◌<◌, ℕ, Bool, true, false, Option, Some, None, zero, suc, List, [], ◌∷◌, length, arith, refl, ap, sym, ◌∙◌, subst}
 use Rattle.std.proofs.lemmas.Option.{none-some}
 use Rattle.xt_map.specs.declared.contents.MemoryContents.{MemoryContents}
-use Rattle.xt_trace.specs.declared.record.StepRecord.{StepRecord}
 use Rattle.xt_trace.specs.declared.run.Run.{Run}
 use Rattle.xt_image.specs.declared.image.Image.{Image}
 use Rattle.xt_image.specs.ImageParts.{FitsImage, FitsSegment}
@@ -13,7 +12,7 @@ use Rattle.xt_frames.specs.FirstBreach.{Course, IsFirstBreach, by_core, turns}
 use Rattle.xt_handlers.specs.declared.stretch.Side.TheVariants.{Overflow, Underflow}
 use Rattle.xt_handlers.specs.declared.Handlers as declared
 use Rattle.xt_handlers.specs.CheckAnswers.{handlers_of}
-use Rattle.xt_discipline.specs.Verdicts.{are_checked, are_yes, course_in, course_of, is_yes, opened0, opened1}
+use Rattle.xt_discipline.specs.Verdicts.{are_checked, are_yes, course_of, opened0, opened1}
 use Rattle.xt_simulation.specs.Opening.{AreSmall, IsRunnable, memory_of}
 use Rattle.xt_uses.specs.FirstUse.{History, IsFirstUse, IsHistory}
 use Rattle.xt_uses.specs.UseLaws.{IsUseRun}
@@ -43,15 +42,10 @@ course_is image r h =
     } in
     ap C (sym (schedule_is image r h))
 
--- what was judged over these answers and records
-pub uses_are : (d : Discipline) (image : Image) (r : Run) (handlers : declared.Handlers) (xs ys : List StepRecord) (uses : Uses)
-    → handlers ≡ handlers_of (code_of image) r.options.vecbase → xs ≡ (records_of 0 image r).records → ys ≡ (records_of 1 image r).records
-    → IsUsesOf d (are_yes handlers) (course_in image r xs ys) uses → IsUsesOf d (are_checked image r.options) (course_of image r) uses
-uses_are d image r handlers xs ys uses answers first second h =
-    let zs = (records_of 0 image r).records in
-    let a : IsUsesOf d (are_checked image r.options) (course_in image r xs ys) uses = subst (λ (x : declared.Handlers). IsUsesOf d (are_yes x) (course_in image r xs ys) uses) answers h in
-    let b : IsUsesOf d (are_checked image r.options) (course_in image r zs ys) uses = subst (λ (x : List StepRecord). IsUsesOf d (are_checked image r.options) (course_in image r x ys) uses) first a in
-    subst (λ (y : List StepRecord). IsUsesOf d (are_checked image r.options) (course_in image r zs y) uses) second b
+-- what was judged over these answers for the handlers
+pub uses_are : (d : Discipline) (image : Image) (r : Run) (handlers : declared.Handlers) (uses : Uses) → handlers ≡ handlers_of (code_of image) r.options.vecbase
+    → IsUsesOf d (are_yes handlers) (course_of image r) uses → IsUsesOf d (are_checked image r.options) (course_of image r) uses
+uses_are d image r handlers uses answers = subst (λ (x : declared.Handlers). IsUsesOf d (are_yes x) (course_of image r) uses) answers
 
 -- ---- the laws
 

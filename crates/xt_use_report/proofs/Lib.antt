@@ -1,4 +1,3 @@
-mod Served
 mod Courses
 mod Fetching
 mod Kept

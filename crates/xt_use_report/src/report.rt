@@ -8,14 +8,14 @@ ghost use Rattle.xt_use_walk.specs.Verdicts.{IsUsesOf};
 ghost use Rattle.xt_use_report.specs.Held.{AreUsesLater, AreUsesSo, IsOnly};
 
 use std::alloc::{AllocError, Global};
-use xt_core::Cursor;
 use xt_discipline::handlers_of;
 use xt_image::{Image, well_formed_is_placed};
 use xt_trace::Run;
 use xt_use_run::filling_laws::runs_are_decided;
 use xt_use_run::laws::{uses_are_so, uses_of_runs_are_later};
+use xt_use_shadow::judge_uses_of;
+use xt_use_walk::Uses;
 use xt_use_walk::laws::uses_are_one;
-use xt_use_walk::{Uses, judge_uses};
 use xt_uses::Discipline;
 
 // A number of 32 bits is a word, by its type.
@@ -23,8 +23,8 @@ fn is_word(number: u32)
     ensures { IsWord number }
 {}
 
-/// What a discipline of uses says of a run of an image, over the records of both cores, which are made one by one: nothing where some
-/// window handler does not pass its check; else the first breach in the order of the run's schedule, or how much of what is not known
+/// What a discipline of uses says of a run of an image, whose turns are made again: nothing where some window handler does not pass its
+/// check; else the first breach in the order of the run's schedule, or how much of what is not known
 /// each core has carried. The only error is running out of memory.
 ///
 /// Conditions: the image is well formed, and the run is the image's.
@@ -54,16 +54,6 @@ pub fn uses_of(
     is_word(run.options.vecbase);
     is_word(run.options.entry1);
     let handlers = handlers_of(alloc, image, run.options.vecbase)?;
-    let mut records0 = Cursor::make(alloc, image, run, 0)?;
-    let mut records1 = Cursor::make(alloc, image, run, 1)?;
-    let uses = judge_uses(
-        alloc,
-        discipline,
-        image,
-        &handlers,
-        run,
-        &mut records0,
-        &mut records1,
-    )?;
+    let uses = judge_uses_of(alloc, discipline, image, &handlers, run)?;
     Ok(uses)
 }

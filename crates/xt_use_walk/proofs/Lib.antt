@@ -15,3 +15,4 @@ pub mod Turning
 pub mod OneAnswer
 pub mod Forgetting
 pub mod Filling
+pub mod Spares

@@ -77,7 +77,7 @@ said d r b0 b1 f0 f1 cs xs ys j (Whole n m) is u t = said_whole d r j n m u t
 said d r b0 b1 f0 f1 cs xs ys j (Broken first) is u t = said_broken d r b0 b1 f0 f1 cs xs ys j first is u t
 
 -- ---- in the words of the image and its run
-uses_are : (d : Discipline) (w : Walk) (code : List Segment) (image : Image) (r : Run) (xs ys : List StepRecord) (uses : Uses) (good : Bool) → good ≡ true → IsOpened d w code image.entry r.options → code ≡ image.segments
+pub uses_are : (d : Discipline) (w : Walk) (code : List Segment) (image : Image) (r : Run) (xs ys : List StepRecord) (uses : Uses) (good : Bool) → good ≡ true → IsOpened d w code image.entry r.options → code ≡ image.segments
     → IsTold (constant_byte w.code)
     (use_judgement (constant_byte w.code) (opening_walked 0 image.entry r.options).bounds (opening_walked 1 r.options.entry1 r.options).bounds (schedule_in r) xs ys (opening_use_known d (opening_walked 0 image.entry r.options).bounds (opening_walked 1 r.options.entry1 r.options).bounds (opening_walked 0 image.entry r.options).state (opening_walked 1 r.options.entry1 r.options).state))
     (opening_use_known d (opening_walked 0 image.entry r.options).bounds (opening_walked 1 r.options.entry1 r.options).bounds (opening_walked 0 image.entry r.options).state (opening_walked 1 r.options.entry1 r.options).state) xs ys uses

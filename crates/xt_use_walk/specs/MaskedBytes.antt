@@ -1,16 +1,20 @@
 -- Carries a proof; nothing that a reader must believe.
 -- What the walk keeps of the bytes of memory: of those of internal data memory, in which live save
 -- areas they lie, and of each byte of the three memory regions the mask with which it is read.
-use Rattle.std.specs.Prelude.{◌≡◌, ℕ, ◌+◌, ◌-◌, ◌<◌, ◌≤◌, Bool, true, ◌||◌, ◌==◌, nat_le}
+use Rattle.std.specs.Prelude.{◌≡◌, ℕ, ◌+◌, ◌-◌, ◌<◌, ◌≤◌, Bool, true, false, ◌||◌, ◌==◌, nat_le}
 use Rattle.std.specs.Prelude.{if◌then◌else◌, Option, Some, None, List, length, slice_index_or}
 use Rattle.xt_map.specs.declared.access.Access.{Access}
 use Rattle.xt_map.specs.Regions.{is_memory, region_of}
 use Rattle.xt_map.specs.Touching.{touches}
 use Rattle.xt_discipline.specs.declared.bytes.Held.{Held}
 use Rattle.xt_discipline.specs.declared.bytes.Change.TheVariants.{Enters, Leaves}
-use Rattle.xt_discipline.specs.ByteMarks.{AreChanged, held_at, is_held, other_live, own_live}
+use Rattle.xt_frames.specs.Breaches.{touches_save_area}
+use Rattle.xt_discipline.specs.ByteMarks.{AreChanged, either, held_at, is_held, other_live, own_live}
 use Rattle.xt_uses.specs.FirstUse.{stored_byte}
+use Rattle.xt_uses.specs.UseBreaches.{swaps_unknown}
+use Rattle.xt_uses.specs.UseStep.{reply_mask}
 use Rattle.xt_uses.specs.UseWalk.{mask_stored}
+use Rattle.xt_uses.specs.Words.{all_bits}
 use Rattle.xt_use_walk.specs.declared.bytes.ByteMasks.{ByteMasks}
 use Rattle.xt_use_walk.specs.declared.side.Bytes.{Bytes}
 
@@ -102,3 +106,15 @@ pub record KnowsBytes (core : ℕ) (x : Bytes) (own others : ℕ → Bool) (mask
     pub live : TellsLive core x.marks.items own others
     pub masks_are : AreMasks x.masks masks
     pub unknown : (a : ℕ) → (own a || others a) ≡ true → masks a ≡ 0
+
+-- an access touches no live byte, and of what it reads each bit is known
+pub record SparesAccess (live : ℕ → Bool) (masks : ℕ → ℕ) (access : Option Access) : Type 0 where
+  pub saves : touches_save_area live access ≡ false
+  pub swaps : swaps_unknown masks access ≡ false
+  pub reply : reply_mask masks access ≡ all_bits
+
+-- so it is whatever bytes these are
+abbrev pub IsSpared : Bytes → Option Access → Type 0
+IsSpared x access =
+    (core : ℕ) (own others : ℕ → Bool) (masks : ℕ → ℕ) → KnowsBytes core x own others masks
+    → SparesAccess (either own others) masks access

@@ -8,4 +8,5 @@ mod side;
 mod walk;
 
 pub use judging::judge_uses;
-pub use walk::{FirstUse, Uses};
+pub use side::{Bytes, Side};
+pub use walk::{FirstUse, Uses, opening_bytes, side_of};

@@ -15,7 +15,7 @@ ghost use Rattle.xt_uses.specs.UseBreaches.{window_use};
 ghost use Rattle.xt_uses.specs.UseParts.{IsTouched, UseMoves};
 ghost use Rattle.xt_uses.specs.UseWalk.{count_of, use_seen, use_seen_judged};
 ghost use Rattle.xt_uses.specs.FirstUse.{stored_byte};
-ghost use Rattle.xt_use_walk.specs.MaskedBytes.{AreBytes, AreFull, AreMasks, AreShifted, KnowsBytes, is_byte, mask_at, put_free, stored_on, stored_over, without};
+ghost use Rattle.xt_use_walk.specs.MaskedBytes.{AreBytes, AreFull, AreMasks, AreShifted, IsSpared, KnowsBytes, is_byte, mask_at, put_free, stored_on, stored_over, without};
 ghost use Rattle.xt_use_walk.specs.Sides.{AreaBytes, BeginsUse, IsFollowed, IsUseSeen, IsUseSide, StackOf, forgets_byte, live_in, standing_of};
 
 use crate::bytes::ByteMasks;
@@ -95,7 +95,9 @@ impl Bytes {
     }
 
     /// What the access of a record touches: of bytes that are known none is live, so most are not looked at one by one.
-    fn touched(&self, rec: &StepRecord) -> Touched
+    ///
+    /// Condition: the access is one that the bus serves.
+    pub fn touched(&self, rec: &StepRecord) -> Touched
         requires full { AreFull self.now }
         requires served { IfSome rec.now.access (λ a. is_mapped a ≡ true) }
         ensures some { (live : ℕ → Bool) × (masks : ℕ → ℕ) × IsTouched result rec.now live masks }
@@ -110,6 +112,37 @@ impl Bytes {
             };
         }
         self.found(rec)
+    }
+
+    /// Whether an access touches no live byte, and reads known bits alone, found out byte by byte.
+    #[inline(never)]
+    fn spares_each(&self, access: Option<Access>) -> bool
+        requires full { AreFull self.now }
+        requires served { IfSome access (λ a. is_mapped a ≡ true) }
+        ensures { result ≡ true → IsSpared self.now access }
+    {
+        let saves = saves(&self.marks, access);
+        let swaps = self.masks.swaps_unknown(access);
+        let reply = self.masks.reply_mask(access);
+        if saves || swaps || reply != ALL_BITS {
+            return false;
+        }
+        true
+    }
+
+    /// Whether an access touches no live byte, and reads known bits alone: of bytes that are known none is live, so most are not looked
+    /// at one by one.
+    ///
+    /// Condition: the access is one that the bus serves.
+    pub fn spares(&self, access: Option<Access>) -> bool
+        requires full { AreFull self.now }
+        requires served { IfSome access (λ a. is_mapped a ≡ true) }
+        ensures { result ≡ true → IsSpared self.now access }
+    {
+        if self.masks.knows(access) {
+            return true;
+        }
+        self.spares_each(access)
     }
 
     /// A byte of memory gets this mask, unless it is live.
@@ -156,7 +189,9 @@ impl Bytes {
     }
 
     /// A judged store gives the bytes that it touches what is known of the value. Nothing is known of a live byte.
-    fn store(&mut self, access: Option<Access>, stored: u32)
+    ///
+    /// Condition: the access is one that the bus serves.
+    pub fn store(&mut self, access: Option<Access>, stored: u32)
         requires full { AreFull self.old }
         requires served { IfSome access (λ a. is_mapped a ≡ true) }
         ensures full { AreFull self.new }
@@ -273,8 +308,10 @@ impl Side {
 
     /// Judges a record that is no handler step and touches this: a breach, after which nothing has changed, or the step, whose save areas
     /// and stores the bytes follow, and then the phase is the next one.
+    ///
+    /// Conditions: fewer than 2^32 - 1 records were seen, the access is one that the bus serves, and it touches this.
     #[inline(never)]
-    fn judge_whole(
+    pub fn judge_whole(
         &mut self,
         code: &Constants,
         bytes: &mut Bytes,

@@ -71,8 +71,10 @@ pub enum End {
 }
 
 /// A core as it opens.
+///
+/// Conditions: the core is 0 or 1, the options are valid, and `hi` is the end of the core's stack.
 #[tactic(auto, using(xt_discipline::proofs::Opens::range_of_core))]
-fn side_of(
+pub fn side_of(
     alloc: Global,
     discipline: Discipline,
     core: u8,
@@ -109,7 +111,9 @@ fn forget_below(masks: &mut ByteMasks, discipline: Discipline, stack: Stack)
 
 /// What is known of the bytes as both cores open: all, but for a word of each stack, 76 below its end, which lies in a live save area,
 /// and in the strict discipline for what lies below the stack pointers.
-fn opening_bytes(
+///
+/// Condition: the options are valid.
+pub fn opening_bytes(
     alloc: Global,
     discipline: Discipline,
     options: &Options,

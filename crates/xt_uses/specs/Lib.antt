@@ -5,8 +5,8 @@
 -- and INTERRUPT. A register has a value and a mask of the bits that are known of it, and each byte
 -- of memory that the bus serves has a mask. A use decides where the program goes on, an address, a
 -- count, a special register, whether a register is written, or a byte that is sent. `Lacks` says
--- which registers of an instruction are shown. `UseWalk`, `UseParts` and `Snapshots` carry the
--- proof of the walk. `Verdicts` of `xt_use_walk` joins `FirstUse` to an image, a run and two lists
+-- which registers of an instruction are shown. `UseWalk`, `UseParts`, `UseLevels` and `Snapshots`
+-- carry the proof of the walk. `Verdicts` of `xt_use_walk` joins `FirstUse` to an image, a run and two lists
 -- of records. `Held` of `xt_use_report` says what is proved of a run's uses, in the words of an
 -- image and its run, and `UsesText`, `Breaches` and `UseFindings` what is printed. `xt_use_run` defines
 -- nothing that a command's contract rests on: `UseRunLaws` states its laws for the course of a run, and
@@ -22,6 +22,7 @@ pub mod FirstUse
 pub mod UseLaws
 pub mod UseParts
 pub mod UseQuick
+pub mod UseLevels
 pub mod Lacks
 pub mod UseWalk
 pub mod Snapshots

@@ -1,9 +1,10 @@
 //! A core of the machine of uses.
 #![tactic(auto)]
 
-ghost use Rattle.std.specs.Prelude.{◌≡◌, ◌≤◌, ◌<◌, ◌+◌, ◌-◌, ◌%◌, ◌^◌, ℕ, Bool, true, false, All, length, slice_index_or, IfOk, IfSome, Ok, OnOk};
+ghost use Rattle.std.specs.Prelude.{◌≡◌, ◌≤◌, ◌<◌, ◌+◌, ◌-◌, ◌%◌, ◌^◌, ℕ, Bool, true, false, None, All, length, slice_index_or, IfOk, IfSome, Ok, OnOk};
 ghost use Rattle.xt_map.specs.Memory.{constant_byte};
 ghost use Rattle.xt_map.specs.Regions.{is_mapped};
+ghost use Rattle.xt_special.specs.Values.{control_at};
 ghost use Rattle.xt_rows.specs.RowLaws.{IsRegister};
 ghost use Rattle.xt_frames.specs.Breaches.{inputs_of};
 ghost use Rattle.xt_frames.specs.Frames.{FrameState, value_or_zero};
@@ -19,6 +20,7 @@ ghost use Rattle.xt_uses.specs.UseBreaches.{use_breach, window_use};
 ghost use Rattle.xt_uses.specs.UseState.{current_masks, is_strict_in};
 ghost use Rattle.xt_uses.specs.Words.{all_bits};
 ghost use Rattle.xt_uses.specs.UseQuick.{StandsStill};
+ghost use Rattle.xt_uses.specs.UseLevels.{IsUseLevel, use_levelled};
 ghost use Rattle.xt_uses.specs.UseParts.{AreFew, IsNewestMasks, IsTouched, IsUseJudged, IsUseTested, KeepsFew, UseMoves, fresh_at, kept_after, kept_of, opened_use};
 
 use crate::discipline::{Discipline, is_strict};
@@ -37,6 +39,7 @@ use xt_frames::{
 };
 use xt_map::Constants;
 use xt_rows::reads;
+use xt_special::Special;
 use xt_trace::{Options, Stack as Range, StepRecord};
 
 /// A core of the machine of uses, as it walks over the judged records of its core. Contracts see its number, its stack range and
@@ -309,6 +312,51 @@ impl UseCore {
             Some(kind) => Err(self.breach(index, kind)),
             None => Ok(()),
         }
+    }
+
+    /// The visible registers. In a nested interrupt those that are kept.
+    pub fn seen(&self) -> [Option<u32>; 16]
+        ensures { result ≡ self.now.state.frame.seen }
+    {
+        self.top.view.seen()
+    }
+
+    /// The known bits of each of them.
+    pub fn seen_masks(&self) -> [u32; 16]
+        ensures { result ≡ self.now.state.masks.seen }
+    {
+        self.top.masks.seen
+    }
+
+    /// Whether the record of this number comes next after the last judged one, and the control state is seen to be this but for EPC1.
+    ///
+    /// Condition: both have 256 special registers.
+    pub fn is_level(&self, index: u32, pc: u32, waits: bool, special: &Special) -> bool
+        requires own { length self.now.state.frame.control.special ≡ 256 }
+        requires others { length special.now.file ≡ 256 }
+        ensures { result ≡ true → IsUseLevel self.now index (control_at pc waits special.now) }
+    {
+        self.next == u64::from(index) && self.top.view.is_level(pc, waits, special)
+    }
+
+    /// Takes these registers with their masks, and this control state but for EPC1, before the record of this number.
+    ///
+    /// Condition: a1 stays.
+    pub fn bring_level(
+        &mut self,
+        index: u32,
+        pc: u32,
+        waits: bool,
+        special: &Special,
+        seen: &[Option<u32>; 16],
+        masks: &[u32; 16],
+    )
+        requires { slice_index_or seen.now 1 None ≡ slice_index_or self.old.state.frame.seen 1 None }
+        ensures { self.new ≡ record self.old { state = use_levelled self.old.state seen.now masks.now (control_at pc waits special.now); next = index } }
+    {
+        self.top.view.bring_level(pc, waits, special, seen);
+        self.top.masks.seen = *masks;
+        self.next = u64::from(index);
     }
 
     /// Whether its discipline is the strict one.

@@ -1,0 +1,11 @@
+mod Knowing
+mod Counts
+mod Whole
+mod Stepping
+mod Turning
+mod Making
+mod Saw
+mod Finding
+mod Walking
+mod Opened
+mod Served
