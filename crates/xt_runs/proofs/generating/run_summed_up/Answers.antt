@@ -3,11 +3,8 @@ use Rattle.xt_runs.specs.Generating.{gen_options}
 use Rattle.xt_runs.proofs.Numbered.{of_number, of_size}
 use Rattle.xt_runs.proofs.generating.run_summed_up.Goals as goal
 
-pub verdict_is_so-requires-clause-run : goal.verdict_is_so-requires-clause-run
-verdict_is_so-requires-clause-run g c = let r = c.in_ok-run.ensures in r.of_image
-
-pub verdict_is_so-requires-clause-framed : goal.verdict_is_so-requires-clause-framed
-verdict_is_so-requires-clause-framed g c = let r = c.in_ok-run.ensures in r.framed
+pub verdict_is_so-requires : goal.verdict_is_so-requires
+verdict_is_so-requires g c = let r = c.in_ok-run.ensures in r.framed
 
 pub judged-requires-clause-run : goal.judged-requires-clause-run
 judged-requires-clause-run g c = let r = c.in_ok-run.ensures in r.of_image
