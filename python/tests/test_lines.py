@@ -68,6 +68,8 @@ HAND = (
     ("all", "end", {"answer": "all"}),
     ("some frames", "end", {"answer": "frames"}),
     ("some states", "end", {"answer": "states"}),
+    ("order 0*20,0!0,1*1", "order", {"order": "0*20,0!0,1*1"}),
+    ("stuck 0*20,0!0", "stuck", {"order": "0*20,0!0"}),
     ("some time core 0 pc 400D0010", "end", {"answer": "time", "core": 0, "pc": 0x400D0010}),
     (".entry 0x40080404", "entry", {"entry": 0x40080404}),
     (".seg 0x40080400 # segment 0 40080400 20 IRAM", "segment",

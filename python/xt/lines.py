@@ -20,6 +20,7 @@ WORD = "[0-9A-F]{8}"
 HALF = "[0-9A-F]{4}"
 CORE = "core (?P<core>[01])"
 ORDER = r"[01]\*[0-9]+(?:,[01]\*[0-9]+)*"
+MOMENTS = r"[01](?:\*[0-9]+|![012])(?:,[01](?:\*[0-9]+|![012]))*"
 EVENT = f"(?P<event>insn|window|exc|int|wait|stop)(?: (?P<number>{NUMBER}))?"
 BREACH = rf"breach (?P<kind>\w+) {CORE} step (?P<step>{NUMBER})"
 PLACED = rf"(?P<index>{NUMBER}) (?P<address>{WORD}) (?P<bytes>{NUMBER}) (?P<region>\w+)"
@@ -378,9 +379,9 @@ FORMS: dict[str, list[Form]] = {
     ],
     "stuck": [
         Form("stuck", "stuck (?P<answer>none|unknown)"),
-        Form("stuck", f"stuck (?P<order>{ORDER})"),
+        Form("stuck", f"stuck (?P<order>{MOMENTS})"),
     ],
-    "order": [Form("order", f"order (?P<order>{ORDER})")],
+    "order": [Form("order", f"order (?P<order>{MOMENTS})")],
     "word": [Form("word", f"word (?P<address>{WORD}) (?P<value>{WORD})")],
     "outcomes": [Form("outcomes", f"outcomes (?P<outcomes>{NUMBER})")],
     "all": [Form("end", "(?P<answer>all)")],

@@ -7,11 +7,11 @@ use Rattle.xt_isa.specs.declared.Insn.{Insn}
 use Rattle.xt_lex.specs.declared.fault.AsmPlace.{AsmPlace}
 use Rattle.xt_names.specs.declared.mnemonic.Mnemonic.{Mnemonic}
 use Rattle.xt_names.specs.declared.forms.Access.{Access}
-use Rattle.xt_mnemonic.specs.declared.argument.Argument.{Argument}
-use Rattle.xt_mnemonic.specs.declared.argument.Argument.TheVariants as argument
-use Rattle.xt_mnemonic.specs.declared.argument.OperandFault.{OperandFault}
-use Rattle.xt_mnemonic.specs.declared.argument.OperandFault.TheVariants as operand_fault
-use Rattle.xt_mnemonic.specs.Making.{instruction_of}
+use Rattle.xt_names.specs.declared.argument.Argument.{Argument}
+use Rattle.xt_names.specs.declared.argument.Argument.TheVariants as argument
+use Rattle.xt_names.specs.declared.argument.OperandFault.{OperandFault}
+use Rattle.xt_names.specs.declared.argument.OperandFault.TheVariants as operand_fault
+use Rattle.xt_names.specs.Making.{instruction_of}
 use Rattle.xt_names.specs.Forms.{access_of}
 use Rattle.xt_lex.specs.Values.{value_of}
 use Rattle.xt_parse.specs.declared.line.Line.{Line}
@@ -22,7 +22,7 @@ use Rattle.xt_parse.specs.declared.statement.Statement.TheVariants as statement
 use Rattle.xt_layout.specs.Findings.{Finding, at_statement, fails, first, or_else}
 use Rattle.xt_asm.specs.Contexts.{IsWhole, own_fault}
 use Rattle.xt_asm.specs.Kinds.{has_misfit, has_no_word, has_unknown, is_misaligned_target, is_out_of_reach, is_range, is_stray_entry, is_unknown_operand, lacks_word}
-use Rattle.xt_mnemonic.specs.Operands.{all_known}
+use Rattle.xt_names.specs.Operands.{all_known}
 use Rattle.xt_asm.specs.Operands.{Site, argument_of, arguments_of, insn_at, special_in}
 
 -- ---- the tests that fail

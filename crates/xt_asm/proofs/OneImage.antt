@@ -6,8 +6,8 @@ use Rattle.xt_isa.specs.declared.Insn.{Insn}
 use Rattle.xt_map.specs.declared.segment.Segment.{Segment}
 use Rattle.xt_image.specs.declared.image.Head.{Head}
 use Rattle.xt_image.specs.declared.image.Image.{Image}
-use Rattle.xt_mnemonic.specs.declared.argument.OperandFault.{OperandFault}
-use Rattle.xt_mnemonic.proofs.EncodingBytes.{one_list}
+use Rattle.xt_names.specs.declared.argument.OperandFault.{OperandFault}
+use Rattle.xt_names.proofs.EncodingBytes.{one_list}
 use Rattle.xt_lex.specs.declared.fault.AsmPlace.{AsmPlace}
 use Rattle.xt_parse.specs.declared.line.Line.{Line}
 use Rattle.xt_parse.specs.declared.statement.Statement.{Statement}

@@ -9,10 +9,10 @@ use Rattle.xt_isa.specs.Ranges.{AreNibbles}
 use Rattle.xt_isa.specs.Spelling.{fields_at, length_of, spelled_insn}
 use Rattle.xt_codec.specs.declared.Decoded.TheVariants.{Good}
 use Rattle.xt_codec.specs.DecoderAnswers.{answer}
-use Rattle.xt_mnemonic.specs.declared.argument.OperandFault.{OperandFault}
+use Rattle.xt_names.specs.declared.argument.OperandFault.{OperandFault}
 use Rattle.xt_names.specs.declared.mnemonic.Mnemonic.{Mnemonic}
 use Rattle.xt_names.specs.Forms.{size_of}
-use Rattle.xt_mnemonic.specs.Lengths.{HasLength}
+use Rattle.xt_names.specs.Lengths.{HasLength}
 use Rattle.xt_lex.specs.declared.labels.Label.{Label}
 use Rattle.xt_lex.specs.declared.expr.Expr.{Expr}
 use Rattle.xt_parse.specs.declared.statement.Statement.{Statement}

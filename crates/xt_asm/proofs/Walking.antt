@@ -7,7 +7,7 @@ use Rattle.std.proofs.lemmas.List.Elements.{All-drop}
 use Rattle.xt_lex.specs.declared.fault.AsmFault.{AsmFault}
 use Rattle.xt_lex.specs.declared.fault.AsmFault.TheVariants as fault
 use Rattle.xt_isa.specs.declared.Insn.{Insn}
-use Rattle.xt_mnemonic.specs.declared.argument.OperandFault.{OperandFault}
+use Rattle.xt_names.specs.declared.argument.OperandFault.{OperandFault}
 use Rattle.xt_lex.specs.declared.labels.Label.{Label}
 use Rattle.xt_parse.specs.declared.line.Line.{Line}
 use Rattle.xt_layout.specs.declared.word.PoolWord.{PoolWord}

@@ -5,11 +5,11 @@ use Rattle.std.specs.Prelude.{option_map}
 use Rattle.std.specs.declared.alloc.Global.{Global}
 use Rattle.xt_isa.specs.declared.Insn.{Insn}
 use Rattle.xt_isa.specs.Ranges.{in_range}
-use Rattle.xt_mnemonic.specs.declared.argument.Argument.{Argument}
-use Rattle.xt_mnemonic.specs.declared.argument.OperandFault.{OperandFault}
+use Rattle.xt_names.specs.declared.argument.Argument.{Argument}
+use Rattle.xt_names.specs.declared.argument.OperandFault.{OperandFault}
 use Rattle.xt_names.specs.declared.mnemonic.Mnemonic.{Mnemonic}
 use Rattle.xt_names.specs.Forms.{size_of}
-use Rattle.xt_mnemonic.specs.Lengths.{HasLength}
+use Rattle.xt_names.specs.Lengths.{HasLength}
 use Rattle.xt_asm.specs.declared.operands.Context.{Context}
 use Rattle.xt_parse.specs.declared.line.Line.{Line}
 use Rattle.xt_parse.specs.declared.statement.Statement.{Statement}

@@ -7,8 +7,8 @@ use Rattle.std.specs.List.{list_any}
 use Rattle.xt_isa.specs.declared.Insn.{Insn}
 use Rattle.xt_names.specs.declared.forms.Access.{Access}
 use Rattle.xt_names.specs.Forms.{access_of}
-use Rattle.xt_mnemonic.specs.declared.argument.OperandFault.{OperandFault}
-use Rattle.xt_mnemonic.specs.declared.argument.OperandFault.TheVariants as operand_fault
+use Rattle.xt_names.specs.declared.argument.OperandFault.{OperandFault}
+use Rattle.xt_names.specs.declared.argument.OperandFault.TheVariants as operand_fault
 use Rattle.xt_lex.specs.declared.fault.AsmPlace.{AsmPlace}
 use Rattle.xt_lex.specs.Tokens.{tokens_of}
 use Rattle.xt_map.specs.Regions.{is_executable, region_of}

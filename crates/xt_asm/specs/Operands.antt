@@ -8,11 +8,11 @@ use Rattle.xt_names.specs.declared.forms.Access.{Access}
 use Rattle.xt_names.specs.declared.mnemonic.Mnemonic.{Mnemonic}
 use Rattle.xt_names.specs.Forms.{access_of}
 use Rattle.xt_names.specs.Specials.{special_number}
-use Rattle.xt_mnemonic.specs.declared.argument.Argument.{Argument}
-use Rattle.xt_mnemonic.specs.declared.argument.Argument.TheVariants as argument
-use Rattle.xt_mnemonic.specs.declared.argument.OperandFault.{OperandFault}
-use Rattle.xt_mnemonic.specs.Making.{instruction_of}
-use Rattle.xt_mnemonic.specs.Operands.{all_known}
+use Rattle.xt_names.specs.declared.argument.Argument.{Argument}
+use Rattle.xt_names.specs.declared.argument.Argument.TheVariants as argument
+use Rattle.xt_names.specs.declared.argument.OperandFault.{OperandFault}
+use Rattle.xt_names.specs.Making.{instruction_of}
+use Rattle.xt_names.specs.Operands.{all_known}
 use Rattle.xt_lex.specs.declared.name.Name.{Name}
 use Rattle.xt_lex.specs.declared.expr.Expr.{Expr}
 use Rattle.xt_lex.specs.declared.expr.TermValue.{TermValue}

@@ -11,7 +11,7 @@ use Rattle.xt_isa.specs.declared.Insn.{Insn}
 use Rattle.xt_isa.specs.Spelling.{fields_at, spelled_insn}
 use Rattle.xt_codec.specs.declared.Decoded.TheVariants.{Good}
 use Rattle.xt_codec.specs.DecoderAnswers.{answer}
-use Rattle.xt_mnemonic.specs.declared.argument.OperandFault.{OperandFault}
+use Rattle.xt_names.specs.declared.argument.OperandFault.{OperandFault}
 use Rattle.xt_lex.specs.declared.expr.Expr.{Expr}
 use Rattle.xt_lex.specs.declared.labels.Label.{Label}
 use Rattle.xt_lex.specs.Values.{value_of}

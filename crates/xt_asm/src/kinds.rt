@@ -12,8 +12,7 @@ use crate::operands::{Context, Made, special_in, value_of};
 use xt_layout::{is_alignment, is_space};
 use xt_lex::{AsmPlace, Expr, Labels};
 use xt_map::can_execute_at;
-use xt_mnemonic::OperandFault;
-use xt_names::{Access, access_of};
+use xt_names::{Access, OperandFault, access_of};
 use xt_parse::{Line, Operand, Statement};
 
 // ---- Unknown

@@ -2,15 +2,14 @@
 ghost use Rattle.std.specs.Prelude.{◌≡◌, ◌<◌, ◌^◌, All, IfOk, map, option_copied};
 ghost use Rattle.xt_lex.specs.Values.{HaveAddresses, value_of};
 ghost use Rattle.xt_parse.specs.Small.{HasShortExprs, IsShort, IsShortOperand};
-ghost use Rattle.xt_mnemonic.specs.Operands.{all_known};
+ghost use Rattle.xt_names.specs.Operands.{all_known};
 ghost use Rattle.xt_asm.specs.Operands.{argument_of, insn_at, insn_of, name_in, special_in};
 ghost use Rattle.xt_asm.specs.Contexts.{IsMade, IsMadeOf, known_items, site_of};
 
 use std::alloc::{AllocError, Global};
 use xt_isa::Insn;
 use xt_lex::{Expr, Labels, Name, Term, TermValue, value};
-use xt_mnemonic::{Argument, OperandFault, instruction};
-use xt_names::{Access, Mnemonic, access_of, special_number};
+use xt_names::{Access, Argument, Mnemonic, OperandFault, access_of, instruction, special_number};
 use xt_parse::{Operand, Statement};
 
 /// What a statement refers to, and where it stands.

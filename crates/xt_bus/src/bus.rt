@@ -17,12 +17,23 @@ use xt_map::{Access, Entry, History, Segment};
 ///
 /// The history is always legal from the opening memory, each of its entries is of core 0 or 1, and
 /// the memory with the sent bytes is what the history leaves; [`Bus::history`] tells so.
-#[derive(Drop)]
 pub struct Bus {
     opening: Memory,
     memory: Memory,
     history: Vec<Entry>,
     spare: u32,
+}
+
+// A `drop` of its own is one call at each place where a value is dropped.
+impl Drop for Bus {
+    fn drop(self) {
+        let Bus {
+            opening: _,
+            memory: _,
+            history: _,
+            spare: _,
+        } = self;
+    }
 }
 
 impl Model for Bus {
@@ -97,7 +108,12 @@ impl Bus {
     pub fn into_history(self) -> History
         ensures { result ≡ self.history }
     {
-        let Bus { history, .. } = self;
+        let Bus {
+            opening: _,
+            memory: _,
+            history,
+            spare: _,
+        } = self;
         History::new(history)
     }
 

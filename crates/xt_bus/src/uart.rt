@@ -49,13 +49,6 @@ impl Uart {
         self.spare -= 1;
     }
 
-    /// How many bytes may yet be sent.
-    pub fn spare(&self) -> usize
-        ensures { result ≡ self.now.spare }
-    {
-        self.spare
-    }
-
     /// The bytes that were sent, the first one first.
     pub fn sent(&self) -> &[u8]
         ensures { result.now ≡ self.now.sent }

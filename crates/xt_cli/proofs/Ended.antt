@@ -1,7 +1,7 @@
 -- The end of a status other than Done, whatever the run does not meet.
 use Rattle.std.proofs.Common.{◌≡◌, ℕ, List, Some, None, refl}
-use Rattle.xt_status.specs.declared.status.Status.{Status}
-use Rattle.xt_status.specs.declared.status.Status.TheVariants as status
+use Rattle.xt_report.specs.declared.status.Status.{Status}
+use Rattle.xt_report.specs.declared.status.Status.TheVariants as status
 use Rattle.xt_cli.specs.Endings.{IsEndOf}
 use Rattle.xt_cli.specs.declared.ending.End.{End}
 

@@ -6,10 +6,10 @@ use Rattle.xt_command_line.specs.MeaningAnswers.{Means}
 use Rattle.xt_command_line.specs.declared.beyond.Beyond.{Beyond}
 use Rattle.xt_command_line.specs.declared.command.Refusal.{Refusal}
 use Rattle.xt_command_line.specs.declared.command.Refusal.TheVariants as refusal
-use Rattle.xt_status.specs.declared.status.Status.{Status}
-use Rattle.xt_status.specs.declared.status.Status.TheVariants as status
-use Rattle.xt_status.specs.Calls.{Ends, IsUntouched}
-use Rattle.xt_status.proofs.Quiet.{is_untouched, keeps_same, still, takes_nothing}
+use Rattle.xt_report.specs.declared.status.Status.{Status}
+use Rattle.xt_report.specs.declared.status.Status.TheVariants as status
+use Rattle.xt_report.specs.Calls.{Ends, IsUntouched}
+use Rattle.xt_report.proofs.Quiet.{is_untouched, keeps_same, still, takes_nothing}
 use Rattle.xt_trace.specs.declared.run.Run.{Run}
 use Rattle.xt_runs.specs.declared.outcome.Outcome.{Outcome}
 use Rattle.xt_runs.specs.Runs.{Generates, Runs, image_limit}

@@ -1,12 +1,12 @@
 -- What a command makes of an input that was read to its end.
 use Rattle.std.proofs.Common.{◌≡◌, ◌≢◌, ◌≤◌, ℕ, Bool, true, false, inl, inr, List, ◌++◌, length, Option, Some, None, Result, Ok, Err, refl, sym, ap, ◌∙◌, subst, append-nil}
 use Rattle.std.specs.Io.KnownBytes.{Appends, Consumes, IsAtEnd}
-use Rattle.xt_status.specs.declared.status.Status.{Status}
-use Rattle.xt_status.specs.declared.status.Status.TheVariants as status
-use Rattle.xt_status.specs.Calls.{Ends, ReadsWhole}
-use Rattle.xt_status.specs.Statuses.{status_after}
-use Rattle.xt_status.specs.Writes.{Writes}
-use Rattle.xt_status.proofs.Quiet.{taken_within}
+use Rattle.xt_report.specs.declared.status.Status.{Status}
+use Rattle.xt_report.specs.declared.status.Status.TheVariants as status
+use Rattle.xt_report.specs.Calls.{Ends, ReadsWhole}
+use Rattle.xt_report.specs.Statuses.{status_after}
+use Rattle.xt_report.specs.Writes.{Writes}
+use Rattle.xt_report.proofs.Quiet.{taken_within}
 use Rattle.xt_io.specs.Whole.{AppendsPrefix}
 use Rattle.xt_io.specs.declared.sink.Refused.{Refused}
 use Rattle.xt_io.specs.declared.sink.Refused.TheVariants as refused

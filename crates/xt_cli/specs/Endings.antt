@@ -4,12 +4,12 @@
 -- nothing, `ReadsWhole` only says that some input with the property exists.
 use Rattle.std.specs.Prelude.{◌≡◌, ℕ, List, ◌++◌, Option, Some, None, IfOk, codes}
 use Rattle.xt_cli.specs.declared.ending.End.{End}
-use Rattle.xt_status.specs.declared.status.Status.{Status}
-use Rattle.xt_status.specs.declared.status.Status.TheVariants as status
+use Rattle.xt_report.specs.declared.status.Status.{Status}
+use Rattle.xt_report.specs.declared.status.Status.TheVariants as status
 use Rattle.xt_runs.specs.declared.outcome.Outcome.{Outcome}
-use Rattle.xt_status.specs.Calls.{Ends}
+use Rattle.xt_report.specs.Calls.{Ends}
 use Rattle.xt_cli.specs.Orders.{order_of}
-use Rattle.xt_status.specs.Statuses.{status_code, status_text}
+use Rattle.xt_report.specs.Statuses.{status_code, status_text}
 use Rattle.xt_cli.specs.Top.{Answers, IsComplete}
 
 -- of a run that does not meet a requirement, by the line that says so

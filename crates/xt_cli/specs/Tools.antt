@@ -15,16 +15,16 @@ use Rattle.xt_record.specs.Fields.{image_in}
 use Rattle.xt_record.specs.Format.{run_in}
 use Rattle.xt_debug.specs.declared.script.Command as script
 use Rattle.xt_debug.specs.Scripts.{script_outcome}
-use Rattle.xt_use_report.specs.UseFindings.{IsUsesTold}
-use Rattle.xt_use_report.specs.SecretFindings.{AreSecretsTold}
+use Rattle.xt_report.specs.UseFindings.{IsUsesTold}
+use Rattle.xt_report.specs.SecretFindings.{AreSecretsTold}
 use Rattle.xt_command_line.specs.declared.beyond.Beyond.{Beyond}
 use Rattle.xt_command_line.specs.declared.command.Refusal.{Refusal}
 use Rattle.xt_command_line.specs.declared.command.Refusal.TheVariants as refusal
 use Rattle.xt_report.specs.Checks.{check_text}
-use Rattle.xt_status.specs.declared.status.Status.{Status}
-use Rattle.xt_status.specs.declared.status.Status.TheVariants as status
-use Rattle.xt_status.specs.Calls.{Ends, IsUntouched, ReadsWhole, TakesWithin}
-use Rattle.xt_status.specs.Inputs.{image_refusal, recording_refusal}
+use Rattle.xt_report.specs.declared.status.Status.{Status}
+use Rattle.xt_report.specs.declared.status.Status.TheVariants as status
+use Rattle.xt_report.specs.Calls.{Ends, IsUntouched, ReadsWhole, TakesWithin}
+use Rattle.xt_report.specs.Inputs.{image_refusal, recording_refusal}
 use Rattle.xt_session.specs.Calls.{Sessions}
 use Rattle.xt_tools.specs.Commands as commands
 use Rattle.xt_tools.specs.Commands.{IsAssembled, IsCountsTold, IsListed}

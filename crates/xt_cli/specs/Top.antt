@@ -1,7 +1,7 @@
 -- What each status of the program says ('profile').
 use Rattle.std.specs.Prelude.{◌≡◌, None, Result, Ok}
 use Rattle.xt_command_line.specs.declared.command.Refusal.{Refusal}
-use Rattle.xt_status.specs.Calls.{Ends}
+use Rattle.xt_report.specs.Calls.{Ends}
 use Rattle.xt_runs.specs.declared.outcome.Outcome.{Outcome}
 use Rattle.xt_runs.specs.Runs.{FinishesGen, FinishesRun, Generates, Runs}
 use Rattle.xt_cli.specs.declared.tool.Tool.TheVariants as tool

@@ -1,6 +1,6 @@
 //! How the program ends: its line on standard error, and its code.
 ghost use Rattle.std.specs.Prelude.{◌≡◌, ◌⊎◌, None, Some, map, string_bytes, IfErr, IfOk, MatchResult};
-ghost use Rattle.xt_status.specs.Calls.{ends, IsUntouched};
+ghost use Rattle.xt_report.specs.Calls.{ends, IsUntouched};
 ghost use Rattle.xt_cli.specs.Endings.{IsEndOf, IsEndOfCall, required_text};
 
 use crate::top::xt_main;
@@ -12,8 +12,8 @@ use std::sync::Wait;
 use std::thread::Threads;
 use xt_io::{Gate, Sink, Source};
 use xt_map::Text;
+use xt_report::{Status, status_line};
 use xt_runs::Outcome;
-use xt_status::{Status, status_line};
 
 /// How the program ends.
 #[derive(Drop)]

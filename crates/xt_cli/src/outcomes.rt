@@ -2,7 +2,7 @@
 ghost use Rattle.std.specs.Prelude.{◌≡◌, ◌≢◌, ◌≤◌, length, IfOk, IfErr, Some};
 ghost use Rattle.xt_image.specs.Format.{image_of};
 ghost use Rattle.xt_image.specs.ImageParts.{IsWellFormed};
-ghost use Rattle.xt_status.specs.Inputs.{image_refusal};
+ghost use Rattle.xt_report.specs.Inputs.{image_refusal};
 ghost use Rattle.xt_command_line.specs.Outcomes.{AreOutcomeOptions};
 ghost use Rattle.xt_tools.specs.Commands.{IsMade};
 ghost use Rattle.xt_cli.specs.Outcomes.{AreOutcomesTold};
@@ -12,7 +12,8 @@ use xt_command_line::OutcomeOptions;
 use xt_image::{Image, well_formed_by_rules};
 use xt_judged::outcomes_text;
 use xt_map::Text;
-use xt_status::{Status, image_in};
+use xt_moment_search::moments_text;
+use xt_report::{Status, image_in};
 
 // The text of everything that can come out of an image.
 fn all_outcomes(alloc: Global, options: &OutcomeOptions, image: &Image) -> Result<Text, AllocError>
@@ -23,6 +24,9 @@ fn all_outcomes(alloc: Global, options: &OutcomeOptions, image: &Image) -> Resul
     well_formed_by_rules();
     let run = options.run.with_entry(image.entry);
     let addresses = options.words.as_slice();
+    if options.any_time {
+        return moments_text(alloc, image, &run, addresses, options.states);
+    }
     outcomes_text(alloc, image, &run, options.timed, addresses, options.states)
 }
 

@@ -4,7 +4,7 @@ ghost use Rattle.xt_map.specs.Placing.{IsPlaced};
 ghost use Rattle.xt_core.specs.Runs.{IsRunOf};
 ghost use Rattle.xt_debug.specs.Grammar.{IsInRange};
 ghost use Rattle.xt_debug.specs.Scripts.{script_outcome};
-ghost use Rattle.xt_status.specs.Calls.{ends};
+ghost use Rattle.xt_report.specs.Calls.{ends};
 ghost use Rattle.xt_cli.specs.Orders.{IsFit, IsFitOrder, order_of};
 ghost use Rattle.xt_cli.specs.Puts.{IsWhole, Puts, Replays, status_beyond};
 ghost use Rattle.xt_cli.specs.Tools.{Answers, Finishes, IsComplete, IsMade, Makes, done_status, leads_beyond, limit_of, refusal_of, status_of};
@@ -19,8 +19,8 @@ use xt_debug::{Debugger, Printed, Script};
 use xt_image::{Image, well_formed_is_placed};
 use xt_io::{ReadError, Sink, Source, read_to_limit};
 use xt_map::Text;
+use xt_report::{IMAGE_LIMIT, RECORDING_LIMIT, Status, recording_in, status_after, write_text};
 use xt_session::session;
-use xt_status::{IMAGE_LIMIT, RECORDING_LIMIT, Status, recording_in, status_after, write_text};
 use xt_tools::{
     ELF_LIMIT, TEXT_LIMIT, check, converted_file, counts, events, image_file, list, map_text,
     migrate, profile, race, secrets, trace, uses,

@@ -1,6 +1,6 @@
 //! The top call.
 ghost use Rattle.std.specs.Prelude.{map, string_bytes};
-ghost use Rattle.xt_status.specs.Calls.{ends};
+ghost use Rattle.xt_report.specs.Calls.{ends};
 ghost use Rattle.xt_cli.specs.Orders.{order_of};
 ghost use Rattle.xt_cli.specs.Threads.{IsThreaded};
 ghost use Rattle.xt_cli.specs.Top.{Answers, IsComplete};

@@ -3,7 +3,7 @@
 use Rattle.std.specs.Prelude.{◌≡◌, ℕ, ◌+◌, true}
 use Rattle.xt_isa.specs.Ranges.{in_range}
 use Rattle.xt_isa.specs.Spelling.{spelled_insn, fields_at, length_of}
-use Rattle.xt_fetch.specs.Fetching.{Fetched, Fetches, Fails, SpellsNothing, read_as}
+use Rattle.xt_map.specs.Fetching.{Fetched, Fetches, Fails, SpellsNothing, read_as}
 use Rattle.xt_codec.specs.declared.fetch.Fetch.{Fetch}
 use Rattle.xt_codec.specs.declared.fetch.Fetch.TheVariants as fetch
 

@@ -22,12 +22,12 @@ pub fn call(t: u8, s: u8, r: u8, op1: u8, op2: u8) -> Option<Insn>
     ensures { result ≡ spelled_insn (record { op0 = 5; t = t; s = s; r = r; op1 = op1; op2 = op2 }) }
 {
     let offset = signed(524288, 4 * imm18(t, s, r, op1, op2));
-    match t {
-        0 | 4 | 8 | 12 => Some(Insn::Control(Control::Call(CallName::Call0, offset))),
-        1 | 5 | 9 | 13 => Some(Insn::Control(Control::Call(CallName::Call4, offset))),
-        2 | 6 | 10 | 14 => Some(Insn::Control(Control::Call(CallName::Call8, offset))),
-        _ => Some(Insn::Control(Control::Call(CallName::Call12, offset))),
-    }
+    Some(Insn::Control(match t {
+        0 | 4 | 8 | 12 => Control::Call(CallName::Call0, offset),
+        1 | 5 | 9 | 13 => Control::Call(CallName::Call4, offset),
+        2 | 6 | 10 | 14 => Control::Call(CallName::Call8, offset),
+        _ => Control::Call(CallName::Call12, offset),
+    }))
 }
 
 /// The opcode map SI, by t.
@@ -42,41 +42,29 @@ pub fn si(t: u8, s: u8, r: u8, op1: u8, op2: u8) -> Option<Insn>
 {
     let near = signed(128, join_two(op1, op2) as u32);
     let far = signed(2048, imm12(r, op1, op2));
-    match t {
-        0 | 4 | 8 | 12 => Some(Insn::Control(Control::J(signed(131072, imm18(t, s, r, op1, op2))))),
-        1 => Some(Insn::Control(Control::BranchZero(ZeroName::Beqz, s, far))),
-        5 => Some(Insn::Control(Control::BranchZero(ZeroName::Bnez, s, far))),
-        9 => Some(Insn::Control(Control::BranchZero(ZeroName::Bltz, s, far))),
-        13 => Some(Insn::Control(Control::BranchZero(ZeroName::Bgez, s, far))),
-        2 => Some(Insn::Control(Control::BranchConst(ConstName::Beqi, s, b4const(r), near))),
-        6 => Some(Insn::Control(Control::BranchConst(ConstName::Bnei, s, b4const(r), near))),
-        10 => Some(Insn::Control(Control::BranchConst(ConstName::Blti, s, b4const(r), near))),
-        14 => Some(Insn::Control(Control::BranchConst(ConstName::Bgei, s, b4const(r), near))),
-        3 => Some(Insn::Control(Control::Entry(s, plain(8 * imm12(r, op1, op2))))),
+    Some(Insn::Control(match t {
+        0 | 4 | 8 | 12 => Control::J(signed(131072, imm18(t, s, r, op1, op2))),
+        1 => Control::BranchZero(ZeroName::Beqz, s, far),
+        5 => Control::BranchZero(ZeroName::Bnez, s, far),
+        9 => Control::BranchZero(ZeroName::Bltz, s, far),
+        13 => Control::BranchZero(ZeroName::Bgez, s, far),
+        2 => Control::BranchConst(ConstName::Beqi, s, b4const(r), near),
+        6 => Control::BranchConst(ConstName::Bnei, s, b4const(r), near),
+        10 => Control::BranchConst(ConstName::Blti, s, b4const(r), near),
+        14 => Control::BranchConst(ConstName::Bgei, s, b4const(r), near),
+        3 => Control::Entry(s, plain(8 * imm12(r, op1, op2))),
         7 => match r {
-            0 => Some(Insn::Boolean(Boolean::Test(TestName::Bf, s, near))),
-            1 => Some(Insn::Boolean(Boolean::Test(TestName::Bt, s, near))),
-            8 => Some(Insn::Control(Control::Loop(
-                LoopName::Loop,
-                s,
-                plain(join_two(op1, op2) as u32),
-            ))),
-            9 => Some(Insn::Control(Control::Loop(
-                LoopName::Loopnez,
-                s,
-                plain(join_two(op1, op2) as u32),
-            ))),
-            10 => Some(Insn::Control(Control::Loop(
-                LoopName::Loopgtz,
-                s,
-                plain(join_two(op1, op2) as u32),
-            ))),
-            _ => None,
+            0 => return Some(Insn::Boolean(Boolean::Test(TestName::Bf, s, near))),
+            1 => return Some(Insn::Boolean(Boolean::Test(TestName::Bt, s, near))),
+            8 => Control::Loop(LoopName::Loop, s, plain(join_two(op1, op2) as u32)),
+            9 => Control::Loop(LoopName::Loopnez, s, plain(join_two(op1, op2) as u32)),
+            10 => Control::Loop(LoopName::Loopgtz, s, plain(join_two(op1, op2) as u32)),
+            _ => return None,
         },
-        11 => Some(Insn::Control(Control::BranchConstu(ConstuName::Bltui, s, b4constu(r), near))),
-        15 => Some(Insn::Control(Control::BranchConstu(ConstuName::Bgeui, s, b4constu(r), near))),
-        _ => None,
-    }
+        11 => Control::BranchConstu(ConstuName::Bltui, s, b4constu(r), near),
+        15 => Control::BranchConstu(ConstuName::Bgeui, s, b4constu(r), near),
+        _ => return None,
+    }))
 }
 
 /// The opcode map B, by r.

@@ -1,12 +1,11 @@
 ghost use Rattle.std.specs.Prelude.{◌≡◌, ◌+◌, ◌<◌, ◌^◌};
 ghost use Rattle.xt_map.specs.Memory.{constant_byte};
-ghost use Rattle.xt_fetch.specs.Fetching.{fetch_at};
+ghost use Rattle.xt_map.specs.Fetching.{fetch_at};
 ghost use Rattle.xt_codec.specs.Fetches.{IsFetched, IsGoodFetch, read_at};
 
 use crate::{Decoded, decode};
-use xt_fetch::{code_three, fetched_length, is_inside, unfetchable};
 use xt_isa::Insn;
-use xt_map::Constants;
+use xt_map::{Constants, code_three, fetched_length, is_inside, unfetchable};
 
 /// What the bytes at an address are.
 #[derive(Clone, Copy)]
@@ -35,7 +34,7 @@ fn spelled_at<U>(code: &Constants, pc: u32) -> Fetch
 
 /// The instruction at an address of the constant regions, or why there is none. `U` names the
 /// user alone: each has a copy of its own, which can be inlined into its one caller.
-#[tactic(auto, unfolding(xt_fetch::specs::Fetching::fetch_at))]
+#[tactic(auto, unfolding(xt_map::specs::Fetching::fetch_at))]
 #[inline(always)]
 pub fn instruction_at<U>(code: &Constants, pc: u32) -> Fetch
     ensures fetched { IsFetched result (fetch_at (constant_byte code.now) pc) }

@@ -18,22 +18,19 @@ pub fn constant(t: u8, s: u8, r: u8, op1: u8, op2: u8) -> Option<Insn>
     requires op2 { op2 < 16 }
     ensures { result ≡ spelled_insn (record { op0 = 12; t = t; s = s; r = r; op1 = op1; op2 = op2 }) }
 {
-    match t {
-        0..=7 => Some(Insn::Density(Density::Movi(
-            s,
-            narrow_constant(r as u32 + 16 * (t as u32 % 8)),
-        ))),
-        8..=11 => Some(Insn::Density(Density::BranchZero(
+    Some(Insn::Density(match t {
+        0..=7 => Density::Movi(s, narrow_constant(r as u32 + 16 * (t as u32 % 8))),
+        8..=11 => Density::BranchZero(
             NarrowZeroName::Beqz,
             s,
             plain(r as u32 + 16 * (t as u32 % 4)),
-        ))),
-        _ => Some(Insn::Density(Density::BranchZero(
+        ),
+        _ => Density::BranchZero(
             NarrowZeroName::Bnez,
             s,
             plain(r as u32 + 16 * (t as u32 % 4)),
-        ))),
-    }
+        ),
+    }))
 }
 
 /// The opcode map ST3: MOV.N, and the words of S3.
@@ -46,15 +43,15 @@ pub fn narrow_system(t: u8, s: u8, r: u8, op1: u8, op2: u8) -> Option<Insn>
     requires op2 { op2 < 16 }
     ensures { result ≡ spelled_insn (record { op0 = 13; t = t; s = s; r = r; op1 = op1; op2 = op2 }) }
 {
-    match (r, t, s) {
-        (0, _, _) => Some(Insn::Density(Density::Mov(t, s))),
-        (15, 0, 0) => Some(Insn::Density(Density::Bare(BareName::Ret))),
-        (15, 1, 0) => Some(Insn::Density(Density::Bare(BareName::Retw))),
-        (15, 2, _) => Some(Insn::Density(Density::Break(plain(s as u32)))),
-        (15, 3, 0) => Some(Insn::Density(Density::Bare(BareName::Nop))),
-        (15, 6, 0) => Some(Insn::Density(Density::Bare(BareName::Ill))),
-        _ => None,
-    }
+    Some(Insn::Density(match (r, t, s) {
+        (0, _, _) => Density::Mov(t, s),
+        (15, 0, 0) => Density::Bare(BareName::Ret),
+        (15, 1, 0) => Density::Bare(BareName::Retw),
+        (15, 2, _) => Density::Break(plain(s as u32)),
+        (15, 3, 0) => Density::Bare(BareName::Nop),
+        (15, 6, 0) => Density::Bare(BareName::Ill),
+        _ => return None,
+    }))
 }
 
 /// L32I.N.

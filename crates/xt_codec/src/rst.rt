@@ -91,21 +91,21 @@ pub fn rst2(t: u8, s: u8, r: u8, op2: u8) -> Option<Insn>
     requires op2 { op2 < 16 }
     ensures { result ≡ spelled_insn (record { op0 = 0; t = t; s = s; r = r; op1 = 2; op2 = op2 }) }
 {
-    match op2 {
-        0 => Some(Insn::Boolean(Boolean::Logic(LogicName::Andb, r, s, t))),
-        1 => Some(Insn::Boolean(Boolean::Logic(LogicName::Andbc, r, s, t))),
-        2 => Some(Insn::Boolean(Boolean::Logic(LogicName::Orb, r, s, t))),
-        3 => Some(Insn::Boolean(Boolean::Logic(LogicName::Orbc, r, s, t))),
-        4 => Some(Insn::Boolean(Boolean::Logic(LogicName::Xorb, r, s, t))),
-        8 => Some(Insn::Three(Three::Mull(r, s, t))),
-        10 => Some(Insn::Three(Three::MulHigh(MulHighName::Muluh, r, s, t))),
-        11 => Some(Insn::Three(Three::MulHigh(MulHighName::Mulsh, r, s, t))),
-        12 => Some(Insn::Three(Three::Divide(DivideName::Quou, r, s, t))),
-        13 => Some(Insn::Three(Three::Divide(DivideName::Quos, r, s, t))),
-        14 => Some(Insn::Three(Three::Divide(DivideName::Remu, r, s, t))),
-        15 => Some(Insn::Three(Three::Divide(DivideName::Rems, r, s, t))),
-        _ => None,
-    }
+    Some(Insn::Three(match op2 {
+        0 => return Some(Insn::Boolean(Boolean::Logic(LogicName::Andb, r, s, t))),
+        1 => return Some(Insn::Boolean(Boolean::Logic(LogicName::Andbc, r, s, t))),
+        2 => return Some(Insn::Boolean(Boolean::Logic(LogicName::Orb, r, s, t))),
+        3 => return Some(Insn::Boolean(Boolean::Logic(LogicName::Orbc, r, s, t))),
+        4 => return Some(Insn::Boolean(Boolean::Logic(LogicName::Xorb, r, s, t))),
+        8 => Three::Mull(r, s, t),
+        10 => Three::MulHigh(MulHighName::Muluh, r, s, t),
+        11 => Three::MulHigh(MulHighName::Mulsh, r, s, t),
+        12 => Three::Divide(DivideName::Quou, r, s, t),
+        13 => Three::Divide(DivideName::Quos, r, s, t),
+        14 => Three::Divide(DivideName::Remu, r, s, t),
+        15 => Three::Divide(DivideName::Rems, r, s, t),
+        _ => return None,
+    }))
 }
 
 /// The opcode map RST3, by op2.
@@ -173,23 +173,23 @@ pub fn rst0(t: u8, s: u8, r: u8, op2: u8) -> Option<Insn>
     requires op2 { op2 < 16 }
     ensures { result ≡ spelled_insn (record { op0 = 0; t = t; s = s; r = r; op1 = 0; op2 = op2 }) }
 {
-    match op2 {
-        0 => crate::zero::st0(t, s, r),
-        1 => Some(Insn::Three(Three::Bitwise(BitwiseName::And, r, s, t))),
-        2 => Some(Insn::Three(Three::Bitwise(BitwiseName::Or, r, s, t))),
-        3 => Some(Insn::Three(Three::Bitwise(BitwiseName::Xor, r, s, t))),
-        4 => crate::zero::st1(t, s, r),
-        6 => crate::zero::rt0(t, s, r),
-        8 => Some(Insn::Three(Three::Sum(SumName::Add, r, s, t))),
-        9 => Some(Insn::Three(Three::Sum(SumName::Addx2, r, s, t))),
-        10 => Some(Insn::Three(Three::Sum(SumName::Addx4, r, s, t))),
-        11 => Some(Insn::Three(Three::Sum(SumName::Addx8, r, s, t))),
-        12 => Some(Insn::Three(Three::Difference(DifferenceName::Sub, r, s, t))),
-        13 => Some(Insn::Three(Three::Difference(DifferenceName::Subx2, r, s, t))),
-        14 => Some(Insn::Three(Three::Difference(DifferenceName::Subx4, r, s, t))),
-        15 => Some(Insn::Three(Three::Difference(DifferenceName::Subx8, r, s, t))),
-        _ => None,
-    }
+    Some(Insn::Three(match op2 {
+        0 => return crate::zero::st0(t, s, r),
+        1 => Three::Bitwise(BitwiseName::And, r, s, t),
+        2 => Three::Bitwise(BitwiseName::Or, r, s, t),
+        3 => Three::Bitwise(BitwiseName::Xor, r, s, t),
+        4 => return crate::zero::st1(t, s, r),
+        6 => return crate::zero::rt0(t, s, r),
+        8 => Three::Sum(SumName::Add, r, s, t),
+        9 => Three::Sum(SumName::Addx2, r, s, t),
+        10 => Three::Sum(SumName::Addx4, r, s, t),
+        11 => Three::Sum(SumName::Addx8, r, s, t),
+        12 => Three::Difference(DifferenceName::Sub, r, s, t),
+        13 => Three::Difference(DifferenceName::Subx2, r, s, t),
+        14 => Three::Difference(DifferenceName::Subx4, r, s, t),
+        15 => Three::Difference(DifferenceName::Subx8, r, s, t),
+        _ => return None,
+    }))
 }
 
 /// EXTUI, of op1 4 and 5.

@@ -33,35 +33,47 @@ fn three_fields(i: Three) -> Fields
     ensures { result ≡ three_fields i }
 {
     match i {
-        Three::Bitwise(BitwiseName::And, r, s, t) => rrr(0, 1, r, s, t),
-        Three::Bitwise(BitwiseName::Or, r, s, t) => rrr(0, 2, r, s, t),
-        Three::Bitwise(BitwiseName::Xor, r, s, t) => rrr(0, 3, r, s, t),
-        Three::Sum(SumName::Add, r, s, t) => rrr(0, 8, r, s, t),
-        Three::Sum(SumName::Addx2, r, s, t) => rrr(0, 9, r, s, t),
-        Three::Sum(SumName::Addx4, r, s, t) => rrr(0, 10, r, s, t),
-        Three::Sum(SumName::Addx8, r, s, t) => rrr(0, 11, r, s, t),
-        Three::Difference(DifferenceName::Sub, r, s, t) => rrr(0, 12, r, s, t),
-        Three::Difference(DifferenceName::Subx2, r, s, t) => rrr(0, 13, r, s, t),
-        Three::Difference(DifferenceName::Subx4, r, s, t) => rrr(0, 14, r, s, t),
-        Three::Difference(DifferenceName::Subx8, r, s, t) => rrr(0, 15, r, s, t),
+        Three::Bitwise(name, r, s, t) => match name {
+            BitwiseName::And => rrr(0, 1, r, s, t),
+            BitwiseName::Or => rrr(0, 2, r, s, t),
+            BitwiseName::Xor => rrr(0, 3, r, s, t),
+        },
+        Three::Sum(name, r, s, t) => match name {
+            SumName::Add => rrr(0, 8, r, s, t),
+            SumName::Addx2 => rrr(0, 9, r, s, t),
+            SumName::Addx4 => rrr(0, 10, r, s, t),
+            SumName::Addx8 => rrr(0, 11, r, s, t),
+        },
+        Three::Difference(name, r, s, t) => match name {
+            DifferenceName::Sub => rrr(0, 12, r, s, t),
+            DifferenceName::Subx2 => rrr(0, 13, r, s, t),
+            DifferenceName::Subx4 => rrr(0, 14, r, s, t),
+            DifferenceName::Subx8 => rrr(0, 15, r, s, t),
+        },
         Three::Src(r, s, t) => rrr(1, 8, r, s, t),
         Three::Mul16(Mul16Name::Mul16u, r, s, t) => rrr(1, 12, r, s, t),
         Three::Mul16(Mul16Name::Mul16s, r, s, t) => rrr(1, 13, r, s, t),
         Three::Mull(r, s, t) => rrr(2, 8, r, s, t),
         Three::MulHigh(MulHighName::Muluh, r, s, t) => rrr(2, 10, r, s, t),
         Three::MulHigh(MulHighName::Mulsh, r, s, t) => rrr(2, 11, r, s, t),
-        Three::Divide(DivideName::Quou, r, s, t) => rrr(2, 12, r, s, t),
-        Three::Divide(DivideName::Quos, r, s, t) => rrr(2, 13, r, s, t),
-        Three::Divide(DivideName::Remu, r, s, t) => rrr(2, 14, r, s, t),
-        Three::Divide(DivideName::Rems, r, s, t) => rrr(2, 15, r, s, t),
-        Three::MinMax(MinMaxName::Min, r, s, t) => rrr(3, 4, r, s, t),
-        Three::MinMax(MinMaxName::Max, r, s, t) => rrr(3, 5, r, s, t),
-        Three::MinMax(MinMaxName::Minu, r, s, t) => rrr(3, 6, r, s, t),
-        Three::MinMax(MinMaxName::Maxu, r, s, t) => rrr(3, 7, r, s, t),
-        Three::Move(MoveName::Moveqz, r, s, t) => rrr(3, 8, r, s, t),
-        Three::Move(MoveName::Movnez, r, s, t) => rrr(3, 9, r, s, t),
-        Three::Move(MoveName::Movltz, r, s, t) => rrr(3, 10, r, s, t),
-        Three::Move(MoveName::Movgez, r, s, t) => rrr(3, 11, r, s, t),
+        Three::Divide(name, r, s, t) => match name {
+            DivideName::Quou => rrr(2, 12, r, s, t),
+            DivideName::Quos => rrr(2, 13, r, s, t),
+            DivideName::Remu => rrr(2, 14, r, s, t),
+            DivideName::Rems => rrr(2, 15, r, s, t),
+        },
+        Three::MinMax(name, r, s, t) => match name {
+            MinMaxName::Min => rrr(3, 4, r, s, t),
+            MinMaxName::Max => rrr(3, 5, r, s, t),
+            MinMaxName::Minu => rrr(3, 6, r, s, t),
+            MinMaxName::Maxu => rrr(3, 7, r, s, t),
+        },
+        Three::Move(name, r, s, t) => match name {
+            MoveName::Moveqz => rrr(3, 8, r, s, t),
+            MoveName::Movnez => rrr(3, 9, r, s, t),
+            MoveName::Movltz => rrr(3, 10, r, s, t),
+            MoveName::Movgez => rrr(3, 11, r, s, t),
+        },
     }
 }
 
@@ -70,24 +82,36 @@ fn shift_fields(i: Shift) -> Fields
     ensures { result ≡ shift_fields i }
 {
     match i {
-        Shift::Sign(SignName::Neg, r, t) => rrr(0, 6, r, 0, t),
-        Shift::Sign(SignName::Abs, r, t) => rrr(0, 6, r, 1, t),
-        Shift::ShiftRight(ShiftRightName::Srl, r, t) => rrr(1, 9, r, 0, t),
-        Shift::ShiftRight(ShiftRightName::Sra, r, t) => rrr(1, 11, r, 0, t),
+        Shift::Sign(name, r, t) => match name {
+            SignName::Neg => rrr(0, 6, r, 0, t),
+            SignName::Abs => rrr(0, 6, r, 1, t),
+        },
+        Shift::ShiftRight(name, r, t) => match name {
+            ShiftRightName::Srl => rrr(1, 9, r, 0, t),
+            ShiftRightName::Sra => rrr(1, 11, r, 0, t),
+        },
         Shift::Sll(r, s) => rrr(1, 10, r, s, 0),
         Shift::Slli(r, s, n) => rrr(1, (32 - five(n)) / 16, r, s, 32 - five(n)),
         Shift::Srai(r, t, n) => rrr(1, 2 + five(n) / 16, r, five(n), t),
         Shift::Srli(r, t, n) => rrr(1, 4, r, five(n), t),
         Shift::Extui(r, t, n, m) => rrr(4 + five(n) / 16, five(m) + 15, r, five(n), t),
-        Shift::Signed(SignedName::Sext, r, s, n) => rrr(3, 2, r, s, five(n) + 9),
-        Shift::Signed(SignedName::Clamps, r, s, n) => rrr(3, 3, r, s, five(n) + 9),
-        Shift::Normalize(NormalizeName::Nsa, t, s) => rrr(0, 4, 14, s, t),
-        Shift::Normalize(NormalizeName::Nsau, t, s) => rrr(0, 4, 15, s, t),
+        Shift::Signed(name, r, s, n) => match name {
+            SignedName::Sext => rrr(3, 2, r, s, five(n) + 9),
+            SignedName::Clamps => rrr(3, 3, r, s, five(n) + 9),
+        },
+        Shift::Normalize(name, t, s) => match name {
+            NormalizeName::Nsa => rrr(0, 4, 14, s, t),
+            NormalizeName::Nsau => rrr(0, 4, 15, s, t),
+        },
         Shift::Movsp(t, s) => rrr(0, 0, 1, s, t),
-        Shift::Amount(AmountName::Ssr, s) => rrr(0, 4, 0, s, 0),
-        Shift::Amount(AmountName::Ssl, s) => rrr(0, 4, 1, s, 0),
-        Shift::ByteAmount(ByteAmountName::Ssa8l, s) => rrr(0, 4, 2, s, 0),
-        Shift::ByteAmount(ByteAmountName::Ssa8b, s) => rrr(0, 4, 3, s, 0),
+        Shift::Amount(name, s) => match name {
+            AmountName::Ssr => rrr(0, 4, 0, s, 0),
+            AmountName::Ssl => rrr(0, 4, 1, s, 0),
+        },
+        Shift::ByteAmount(name, s) => match name {
+            ByteAmountName::Ssa8l => rrr(0, 4, 2, s, 0),
+            ByteAmountName::Ssa8b => rrr(0, 4, 3, s, 0),
+        },
         Shift::Ssai(n) => rrr(0, 4, 4, five(n), five(n) / 16),
     }
 }
@@ -97,18 +121,26 @@ fn memory_fields(i: Memory) -> Fields
     ensures { result ≡ memory_fields i }
 {
     match i {
-        Memory::Byte(ByteName::L8ui, t, s, n) => rri8(2, 0, s, t, bits(n)),
-        Memory::Byte(ByteName::S8i, t, s, n) => rri8(2, 4, s, t, bits(n)),
-        Memory::Half(HalfName::L16ui, t, s, n) => rri8(2, 1, s, t, bits(n) / 2),
-        Memory::Half(HalfName::L16si, t, s, n) => rri8(2, 9, s, t, bits(n) / 2),
-        Memory::Half(HalfName::S16i, t, s, n) => rri8(2, 5, s, t, bits(n) / 2),
-        Memory::Word(WordName::L32i, t, s, n) => rri8(2, 2, s, t, bits(n) / 4),
-        Memory::Word(WordName::S32i, t, s, n) => rri8(2, 6, s, t, bits(n) / 4),
-        Memory::Word(WordName::L32ai, t, s, n) => rri8(2, 11, s, t, bits(n) / 4),
-        Memory::Word(WordName::S32ri, t, s, n) => rri8(2, 15, s, t, bits(n) / 4),
+        Memory::Byte(name, t, s, n) => match name {
+            ByteName::L8ui => rri8(2, 0, s, t, bits(n)),
+            ByteName::S8i => rri8(2, 4, s, t, bits(n)),
+        },
+        Memory::Half(name, t, s, n) => match name {
+            HalfName::L16ui => rri8(2, 1, s, t, bits(n) / 2),
+            HalfName::L16si => rri8(2, 9, s, t, bits(n) / 2),
+            HalfName::S16i => rri8(2, 5, s, t, bits(n) / 2),
+        },
+        Memory::Word(name, t, s, n) => match name {
+            WordName::L32i => rri8(2, 2, s, t, bits(n) / 4),
+            WordName::S32i => rri8(2, 6, s, t, bits(n) / 4),
+            WordName::L32ai => rri8(2, 11, s, t, bits(n) / 4),
+            WordName::S32ri => rri8(2, 15, s, t, bits(n) / 4),
+        },
         Memory::S32c1i(t, s, n) => rri8(2, 14, s, t, bits(n) / 4),
-        Memory::Window(WindowName::L32e, t, s, n) => rrr(9, 0, (bits(n) / 4 % 32) as u8, s, t),
-        Memory::Window(WindowName::S32e, t, s, n) => rrr(9, 4, (bits(n) / 4 % 32) as u8, s, t),
+        Memory::Window(name, t, s, n) => match name {
+            WindowName::L32e => rrr(9, 0, (bits(n) / 4 % 32) as u8, s, t),
+            WindowName::S32e => rrr(9, 4, (bits(n) / 4 % 32) as u8, s, t),
+        },
         Memory::L32r(t, n) => ri16(t, bits(n) / 4),
         Memory::Movi(t, n) => rri8(2, 10, (bits(n) / 256 % 32) as u8, t, bits(n)),
         Memory::Addi(t, s, n) => rri8(2, 12, s, t, bits(n)),
@@ -150,47 +182,49 @@ fn control_fields(i: Control) -> Fields
 {
     match i {
         Control::J(n) => call(6, 0, bits(n)),
-        Control::Call(CallName::Call0, n) => call(5, 0, bits(n) / 4),
-        Control::Call(CallName::Call4, n) => call(5, 1, bits(n) / 4),
-        Control::Call(CallName::Call8, n) => call(5, 2, bits(n) / 4),
-        Control::Call(CallName::Call12, n) => call(5, 3, bits(n) / 4),
+        Control::Call(name, n) => match name {
+            CallName::Call0 => call(5, 0, bits(n) / 4),
+            CallName::Call4 => call(5, 1, bits(n) / 4),
+            CallName::Call8 => call(5, 2, bits(n) / 4),
+            CallName::Call12 => call(5, 3, bits(n) / 4),
+        },
         Control::Return(ReturnName::Ret) => rrr(0, 0, 0, 0, 8),
         Control::Return(ReturnName::Retw) => rrr(0, 0, 0, 0, 9),
         Control::Jx(s) => rrr(0, 0, 0, s, 10),
-        Control::Callx(CallxName::Callx0, s) => rrr(0, 0, 0, s, 12),
-        Control::Callx(CallxName::Callx4, s) => rrr(0, 0, 0, s, 13),
-        Control::Callx(CallxName::Callx8, s) => rrr(0, 0, 0, s, 14),
-        Control::Callx(CallxName::Callx12, s) => rrr(0, 0, 0, s, 15),
-        Control::BranchZero(ZeroName::Beqz, s, n) => bri12(1, s, bits(n)),
-        Control::BranchZero(ZeroName::Bnez, s, n) => bri12(5, s, bits(n)),
-        Control::BranchZero(ZeroName::Bltz, s, n) => bri12(9, s, bits(n)),
-        Control::BranchZero(ZeroName::Bgez, s, n) => bri12(13, s, bits(n)),
-        Control::BranchConst(ConstName::Beqi, s, c, n) => rri8(6, constant(c), s, 2, bits(n)),
-        Control::BranchConst(ConstName::Bnei, s, c, n) => rri8(6, constant(c), s, 6, bits(n)),
-        Control::BranchConst(ConstName::Blti, s, c, n) => rri8(6, constant(c), s, 10, bits(n)),
-        Control::BranchConst(ConstName::Bgei, s, c, n) => rri8(6, constant(c), s, 14, bits(n)),
-        Control::BranchConstu(ConstuName::Bltui, s, c, n) => rri8(6, constant(c), s, 11, bits(n)),
-        Control::BranchConstu(ConstuName::Bgeui, s, c, n) => rri8(6, constant(c), s, 15, bits(n)),
+        Control::Callx(name, s) => match name {
+            CallxName::Callx0 => rrr(0, 0, 0, s, 12),
+            CallxName::Callx4 => rrr(0, 0, 0, s, 13),
+            CallxName::Callx8 => rrr(0, 0, 0, s, 14),
+            CallxName::Callx12 => rrr(0, 0, 0, s, 15),
+        },
+        Control::BranchZero(name, s, n) => match name {
+            ZeroName::Beqz => bri12(1, s, bits(n)),
+            ZeroName::Bnez => bri12(5, s, bits(n)),
+            ZeroName::Bltz => bri12(9, s, bits(n)),
+            ZeroName::Bgez => bri12(13, s, bits(n)),
+        },
+        Control::BranchConst(name, s, c, n) => match name {
+            ConstName::Beqi => rri8(6, constant(c), s, 2, bits(n)),
+            ConstName::Bnei => rri8(6, constant(c), s, 6, bits(n)),
+            ConstName::Blti => rri8(6, constant(c), s, 10, bits(n)),
+            ConstName::Bgei => rri8(6, constant(c), s, 14, bits(n)),
+        },
+        Control::BranchConstu(name, s, c, n) => match name {
+            ConstuName::Bltui => rri8(6, constant(c), s, 11, bits(n)),
+            ConstuName::Bgeui => rri8(6, constant(c), s, 15, bits(n)),
+        },
         Control::Branch(name, s, t, n) => branch_fields(name, s, t, n),
         Control::BranchNot(name, s, t, n) => opposite_fields(name, s, t, n),
-        Control::BranchBit(BitName::Bbci, s, b, n) => rri8(
-            7,
-            6 + five(b) / 16,
-            s,
-            five(b),
-            bits(n),
-        ),
-        Control::BranchBit(BitName::Bbsi, s, b, n) => rri8(
-            7,
-            14 + five(b) / 16,
-            s,
-            five(b),
-            bits(n),
-        ),
+        Control::BranchBit(name, s, b, n) => match name {
+            BitName::Bbci => rri8(7, 6 + five(b) / 16, s, five(b), bits(n)),
+            BitName::Bbsi => rri8(7, 14 + five(b) / 16, s, five(b), bits(n)),
+        },
         Control::Entry(s, n) => bri12(3, s, bits(n) / 8),
-        Control::Loop(LoopName::Loop, s, n) => rri8(6, 8, s, 7, bits(n)),
-        Control::Loop(LoopName::Loopnez, s, n) => rri8(6, 9, s, 7, bits(n)),
-        Control::Loop(LoopName::Loopgtz, s, n) => rri8(6, 10, s, 7, bits(n)),
+        Control::Loop(name, s, n) => match name {
+            LoopName::Loop => rri8(6, 8, s, 7, bits(n)),
+            LoopName::Loopnez => rri8(6, 9, s, 7, bits(n)),
+            LoopName::Loopgtz => rri8(6, 10, s, 7, bits(n)),
+        },
     }
 }
 
@@ -218,9 +252,11 @@ fn system_fields(i: System) -> Fields
         System::Level(LevelName::Rsil, t, n) => rrr(0, 0, 6, five(n), t),
         System::Level(LevelName::Waiti, _, n) => rrr(0, 0, 7, five(n), 0),
         System::Rotw(n) => rrr(0, 4, 8, 0, five(n)),
-        System::Special(SpecialName::Rsr, t, n) => rrr(3, 0, n / 16, n, t),
-        System::Special(SpecialName::Wsr, t, n) => rrr(3, 1, n / 16, n, t),
-        System::Special(SpecialName::Xsr, t, n) => rrr(1, 6, n / 16, n, t),
+        System::Special(name, t, n) => match name {
+            SpecialName::Rsr => rrr(3, 0, n / 16, n, t),
+            SpecialName::Wsr => rrr(3, 1, n / 16, n, t),
+            SpecialName::Xsr => rrr(1, 6, n / 16, n, t),
+        },
         System::User(UserName::Rur, r, _) => rrr(3, 14, r, 14, 7),
         System::User(UserName::Wur, t, _) => rrr(3, 15, 14, 7, t),
     }
@@ -231,23 +267,17 @@ fn density_fields(i: Density) -> Fields
     ensures { result ≡ density_fields i }
 {
     match i {
-        Density::Word(NarrowName::L32i, t, s, n) => rrrn(8, (bits(n) / 4 % 32) as u8, s, t),
-        Density::Word(NarrowName::S32i, t, s, n) => rrrn(9, (bits(n) / 4 % 32) as u8, s, t),
+        Density::Word(name, t, s, n) => match name {
+            NarrowName::L32i => rrrn(8, (bits(n) / 4 % 32) as u8, s, t),
+            NarrowName::S32i => rrrn(9, (bits(n) / 4 % 32) as u8, s, t),
+        },
         Density::Add(r, s, t) => rrrn(10, r, s, t),
         Density::Addi(r, s, n) => rrrn(11, r, s, small(n)),
         Density::Movi(s, n) => rrrn(12, five(n), s, (bits(n) / 16 % 8) as u8),
-        Density::BranchZero(NarrowZeroName::Beqz, s, n) => rrrn(
-            12,
-            five(n),
-            s,
-            8 + (bits(n) / 16 % 4) as u8,
-        ),
-        Density::BranchZero(NarrowZeroName::Bnez, s, n) => rrrn(
-            12,
-            five(n),
-            s,
-            12 + (bits(n) / 16 % 4) as u8,
-        ),
+        Density::BranchZero(name, s, n) => match name {
+            NarrowZeroName::Beqz => rrrn(12, five(n), s, 8 + (bits(n) / 16 % 4) as u8),
+            NarrowZeroName::Bnez => rrrn(12, five(n), s, 12 + (bits(n) / 16 % 4) as u8),
+        },
         Density::Mov(t, s) => rrrn(13, 0, s, t),
         Density::Bare(BareName::Ret) => rrrn(13, 15, 0, 0),
         Density::Bare(BareName::Retw) => rrrn(13, 15, 0, 1),
@@ -262,19 +292,29 @@ fn boolean_fields(i: Boolean) -> Fields
     ensures { result ≡ boolean_fields i }
 {
     match i {
-        Boolean::Logic(LogicName::Andb, r, s, t) => rrr(2, 0, r, s, t),
-        Boolean::Logic(LogicName::Andbc, r, s, t) => rrr(2, 1, r, s, t),
-        Boolean::Logic(LogicName::Orb, r, s, t) => rrr(2, 2, r, s, t),
-        Boolean::Logic(LogicName::Orbc, r, s, t) => rrr(2, 3, r, s, t),
-        Boolean::Logic(LogicName::Xorb, r, s, t) => rrr(2, 4, r, s, t),
-        Boolean::Four(FourName::Any4, t, s) => rrr(0, 0, 8, s, t),
-        Boolean::Four(FourName::All4, t, s) => rrr(0, 0, 9, s, t),
-        Boolean::Eight(EightName::Any8, t, s) => rrr(0, 0, 10, s, t),
-        Boolean::Eight(EightName::All8, t, s) => rrr(0, 0, 11, s, t),
-        Boolean::Test(TestName::Bf, s, n) => rri8(6, 0, s, 7, bits(n)),
-        Boolean::Test(TestName::Bt, s, n) => rri8(6, 1, s, 7, bits(n)),
-        Boolean::Choice(ChoiceName::Movf, r, s, t) => rrr(3, 12, r, s, t),
-        Boolean::Choice(ChoiceName::Movt, r, s, t) => rrr(3, 13, r, s, t),
+        Boolean::Logic(name, r, s, t) => match name {
+            LogicName::Andb => rrr(2, 0, r, s, t),
+            LogicName::Andbc => rrr(2, 1, r, s, t),
+            LogicName::Orb => rrr(2, 2, r, s, t),
+            LogicName::Orbc => rrr(2, 3, r, s, t),
+            LogicName::Xorb => rrr(2, 4, r, s, t),
+        },
+        Boolean::Four(name, t, s) => match name {
+            FourName::Any4 => rrr(0, 0, 8, s, t),
+            FourName::All4 => rrr(0, 0, 9, s, t),
+        },
+        Boolean::Eight(name, t, s) => match name {
+            EightName::Any8 => rrr(0, 0, 10, s, t),
+            EightName::All8 => rrr(0, 0, 11, s, t),
+        },
+        Boolean::Test(name, s, n) => match name {
+            TestName::Bf => rri8(6, 0, s, 7, bits(n)),
+            TestName::Bt => rri8(6, 1, s, 7, bits(n)),
+        },
+        Boolean::Choice(name, r, s, t) => match name {
+            ChoiceName::Movf => rrr(3, 12, r, s, t),
+            ChoiceName::Movt => rrr(3, 13, r, s, t),
+        },
     }
 }
 

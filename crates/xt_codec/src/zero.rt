@@ -20,17 +20,17 @@ fn snm0(t: u8, s: u8) -> Option<Insn>
     requires s { s < 16 }
     ensures { result ≡ spelled_insn (record { op0 = 0; t = t; s = s; r = 0; op1 = 0; op2 = 0 }) }
 {
-    match (t, s) {
-        (0, 0) => Some(Insn::System(System::Sync(SyncName::Ill))),
-        (8, 0) => Some(Insn::Control(Control::Return(ReturnName::Ret))),
-        (9, 0) => Some(Insn::Control(Control::Return(ReturnName::Retw))),
-        (10, _) => Some(Insn::Control(Control::Jx(s))),
-        (12, _) => Some(Insn::Control(Control::Callx(CallxName::Callx0, s))),
-        (13, _) => Some(Insn::Control(Control::Callx(CallxName::Callx4, s))),
-        (14, _) => Some(Insn::Control(Control::Callx(CallxName::Callx8, s))),
-        (15, _) => Some(Insn::Control(Control::Callx(CallxName::Callx12, s))),
-        _ => None,
-    }
+    Some(Insn::Control(match (t, s) {
+        (0, 0) => return Some(Insn::System(System::Sync(SyncName::Ill))),
+        (8, 0) => Control::Return(ReturnName::Ret),
+        (9, 0) => Control::Return(ReturnName::Retw),
+        (10, _) => Control::Jx(s),
+        (12, _) => Control::Callx(CallxName::Callx0, s),
+        (13, _) => Control::Callx(CallxName::Callx4, s),
+        (14, _) => Control::Callx(CallxName::Callx8, s),
+        (15, _) => Control::Callx(CallxName::Callx12, s),
+        _ => return None,
+    }))
 }
 
 /// The opcode map SYNC, by t.
@@ -43,17 +43,17 @@ fn sync(t: u8, s: u8) -> Option<Insn>
     if s != 0 {
         return None;
     }
-    match t {
-        0 => Some(Insn::System(System::Sync(SyncName::Isync))),
-        1 => Some(Insn::System(System::Sync(SyncName::Rsync))),
-        2 => Some(Insn::System(System::Sync(SyncName::Esync))),
-        3 => Some(Insn::System(System::Sync(SyncName::Dsync))),
-        8 => Some(Insn::System(System::Wait(WaitName::Excw))),
-        12 => Some(Insn::System(System::Wait(WaitName::Memw))),
-        13 => Some(Insn::System(System::Wait(WaitName::Extw))),
-        15 => Some(Insn::System(System::Wait(WaitName::Nop))),
-        _ => None,
-    }
+    Some(Insn::System(match t {
+        0 => System::Sync(SyncName::Isync),
+        1 => System::Sync(SyncName::Rsync),
+        2 => System::Sync(SyncName::Esync),
+        3 => System::Sync(SyncName::Dsync),
+        8 => System::Wait(WaitName::Excw),
+        12 => System::Wait(WaitName::Memw),
+        13 => System::Wait(WaitName::Extw),
+        15 => System::Wait(WaitName::Nop),
+        _ => return None,
+    }))
 }
 
 /// The opcode map RFEI, by t and s.
@@ -63,23 +63,14 @@ fn rfei(t: u8, s: u8) -> Option<Insn>
     requires s { s < 16 }
     ensures { result ≡ spelled_insn (record { op0 = 0; t = t; s = s; r = 3; op1 = 0; op2 = 0 }) }
 {
-    match t {
-        0 => match s {
-            0 => Some(Insn::System(System::ExceptionReturn(ExceptionReturnName::Rfe))),
-            2 => Some(Insn::System(System::ExceptionReturn(ExceptionReturnName::Rfde))),
-            4 => Some(Insn::System(System::ExceptionReturn(ExceptionReturnName::Rfwo))),
-            5 => Some(Insn::System(System::ExceptionReturn(ExceptionReturnName::Rfwu))),
-            _ => None,
-        },
-        1 => {
-            if 1 < s && s < 8 {
-                Some(Insn::System(System::Rfi(plain(s as u32))))
-            } else {
-                None
-            }
-        }
-        _ => None,
-    }
+    Some(Insn::System(match (t, s) {
+        (0, 0) => System::ExceptionReturn(ExceptionReturnName::Rfe),
+        (0, 2) => System::ExceptionReturn(ExceptionReturnName::Rfde),
+        (0, 4) => System::ExceptionReturn(ExceptionReturnName::Rfwo),
+        (0, 5) => System::ExceptionReturn(ExceptionReturnName::Rfwu),
+        (1, 2..=7) => System::Rfi(plain(s as u32)),
+        _ => return None,
+    }))
 }
 
 /// An instruction of `count` Boolean registers from s on, where s is a multiple of their number.
@@ -141,23 +132,17 @@ pub fn st1(t: u8, s: u8, r: u8) -> Option<Insn>
     requires r { r < 16 }
     ensures { result ≡ spelled_insn (record { op0 = 0; t = t; s = s; r = r; op1 = 0; op2 = 4 }) }
 {
-    match (r, t) {
-        (0, 0) => Some(Insn::Shift(Shift::Amount(AmountName::Ssr, s))),
-        (1, 0) => Some(Insn::Shift(Shift::Amount(AmountName::Ssl, s))),
-        (2, 0) => Some(Insn::Shift(Shift::ByteAmount(ByteAmountName::Ssa8l, s))),
-        (3, 0) => Some(Insn::Shift(Shift::ByteAmount(ByteAmountName::Ssa8b, s))),
-        (4, 0 | 1) => Some(Insn::Shift(Shift::Ssai(plain(join_five(s, t) as u32)))),
-        (8, _) => {
-            if s == 0 {
-                Some(Insn::System(System::Rotw(signed(8, t as u32))))
-            } else {
-                None
-            }
-        }
-        (14, _) => Some(Insn::Shift(Shift::Normalize(NormalizeName::Nsa, t, s))),
-        (15, _) => Some(Insn::Shift(Shift::Normalize(NormalizeName::Nsau, t, s))),
-        _ => None,
-    }
+    Some(Insn::Shift(match (r, t) {
+        (0, 0) => Shift::Amount(AmountName::Ssr, s),
+        (1, 0) => Shift::Amount(AmountName::Ssl, s),
+        (2, 0) => Shift::ByteAmount(ByteAmountName::Ssa8l, s),
+        (3, 0) => Shift::ByteAmount(ByteAmountName::Ssa8b, s),
+        (4, 0 | 1) => Shift::Ssai(plain(join_five(s, t) as u32)),
+        (8, _) if s == 0 => return Some(Insn::System(System::Rotw(signed(8, t as u32)))),
+        (14, _) => Shift::Normalize(NormalizeName::Nsa, t, s),
+        (15, _) => Shift::Normalize(NormalizeName::Nsau, t, s),
+        _ => return None,
+    }))
 }
 
 /// The opcode map RT0, by s.
@@ -168,9 +153,9 @@ pub fn rt0(t: u8, s: u8, r: u8) -> Option<Insn>
     requires r { r < 16 }
     ensures { result ≡ spelled_insn (record { op0 = 0; t = t; s = s; r = r; op1 = 0; op2 = 6 }) }
 {
-    match s {
-        0 => Some(Insn::Shift(Shift::Sign(SignName::Neg, r, t))),
-        1 => Some(Insn::Shift(Shift::Sign(SignName::Abs, r, t))),
-        _ => None,
-    }
+    Some(Insn::Shift(match s {
+        0 => Shift::Sign(SignName::Neg, r, t),
+        1 => Shift::Sign(SignName::Abs, r, t),
+        _ => return None,
+    }))
 }

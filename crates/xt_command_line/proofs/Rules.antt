@@ -211,12 +211,12 @@ listing_by-answers None = λ e. search (rules, e)
 listing_by-answers (Some rows) =
     answer_with-answers (listing_with (is_set (first_of (codes "data") rows))) _ (way_in-answers (is_set (first_of (codes "flow") rows)) (first_of (codes "vecbase") rows) (first_of (codes "entry1") rows) (first_of (codes "roots") rows))
 
-outcomes_with-answers : (timed : Bool) (words : Option (List ℕ)) (states : Option ℕ) (run : Result RunOptions Refusal) → run ≢ Err refusal.Memory
-    → outcomes_with timed words states run ≢ Err refusal.Memory
-outcomes_with-answers timed None states run no_memory = λ e. search (rules, e)
-outcomes_with-answers timed (Some words) None run no_memory = λ e. search (rules, e)
-outcomes_with-answers timed (Some words) (Some states) (Ok run) no_memory = λ e. search (rules, e)
-outcomes_with-answers timed (Some words) (Some states) (Err r) no_memory = λ e. no_memory (cc)
+outcomes_with-answers : (timed any_time : Bool) (words : Option (List ℕ)) (states : Option ℕ) (run : Result RunOptions Refusal) → run ≢ Err refusal.Memory
+    → outcomes_with timed any_time words states run ≢ Err refusal.Memory
+outcomes_with-answers timed any_time None states run no_memory = λ e. search (rules, e)
+outcomes_with-answers timed any_time (Some words) None run no_memory = λ e. search (rules, e)
+outcomes_with-answers timed any_time (Some words) (Some states) (Ok run) no_memory = λ e. search (rules, e)
+outcomes_with-answers timed any_time (Some words) (Some states) (Err r) no_memory = λ e. no_memory (cc)
 
 outcomes_if-answers : (b : Bool) (r : Result OutcomeOptions Refusal) → r ≢ Err refusal.Memory → (if b then r else Err (refusal.Usage 3)) ≢ Err refusal.Memory
 outcomes_if-answers true r no_memory = no_memory
@@ -226,7 +226,7 @@ outcomes_by-answers : (rows : Option (List Row)) → outcomes_by rows ≢ Err re
 outcomes_by-answers None = λ e. search (rules, e)
 outcomes_by-answers (Some rows) =
     let t = texts_of rows in
-    outcomes_if-answers _ _ (outcomes_with-answers _ (places_of (word_texts rows)) (said_or states_of 1000000 (first_of (codes "states") rows)) (judged_texts t) (texts-answers t))
+    outcomes_if-answers _ _ (outcomes_with-answers _ _ (places_of (word_texts rows)) (said_or states_of 1000000 (first_of (codes "states") rows)) (judged_texts t) (texts-answers t))
 
 without_options-answers : (c : Command) (rows : Option (List Row)) → without_options c rows ≢ Err refusal.Memory
 without_options-answers c None = λ e. search (rules, e)

@@ -1,9 +1,9 @@
 -- What the words of `outcomes` say ('profile').
 --
 -- Profile: only `--timed` gives each core a number of turns, so `--turns0` and `--turns1` do not match
--- without it. A fifth word does not match what the command takes; a word that is no aligned
+-- without it; nor does `--any-time` with it. A fifth word does not match what the command takes; a word that is no aligned
 -- address of memory, and a number of worlds that is none, or too many, is no number of its option.
-use Rattle.std.specs.Prelude.{◌≤◌, ℕ, ◌+◌, ◌%◌, ◌^◌, Bool, ◌==◌, ◌&&◌, ◌||◌, nat_le, is_none, All}
+use Rattle.std.specs.Prelude.{◌≤◌, ℕ, ◌+◌, ◌%◌, ◌^◌, Bool, ◌==◌, ◌&&◌, ◌||◌, not, nat_le, is_none, All}
 use Rattle.std.specs.Prelude.{List, [], ◌∷◌, fold, length, Option, Some, None, unwrap_or, Result, Ok}
 use Rattle.std.specs.Prelude.{Err, if◌then◌else◌, codes, option_and_then}
 use Rattle.clap.specs.Words.{App, Row, Text, all_of, first_of, new_app, with_rule}
@@ -24,14 +24,16 @@ abbrev pub with_many : App → Text → App
 with_many app name = with_rule app (record (option_rule name) { action = Some Append })
 
 -- [--turns0 N] [--turns1 N] [--entry1 N] [--vecbase N] [--stack0 LO:HI] [--stack1 LO:HI]
--- [--states N] [--word ADDR].. [--timed]
+-- [--states N] [--word ADDR].. [--timed] [--any-time]
 abbrev pub outcomes_app : App
 outcomes_app =
     with_flag
+    (with_flag
     (with_many
     (with_option (fold with_option (new_app (codes "outcomes")) place_names) (codes "states"))
     (codes "word"))
-    (codes "timed")
+    (codes "timed"))
+    (codes "any-time")
 
 -- ---- the words of an outcome
 
@@ -72,22 +74,29 @@ states_of text = number_passing is_count (number_of text)
 
 -- with these addresses and so many worlds, where the texts say them
 abbrev pub outcomes_with :
-    Bool → Option (List ℕ) → Option ℕ → Result RunOptions Refusal → Result OutcomeOptions Refusal
-outcomes_with timed (Some words) (Some states) (Ok run) =
-    Ok (record { run = run; timed = timed; words = words; states = states })
-outcomes_with timed (Some words) (Some states) (Err r) = Err r
-outcomes_with timed _ _ run = Err (refusal.Usage 4)
+    Bool → Bool → Option (List ℕ) → Option ℕ → Result RunOptions Refusal
+    → Result OutcomeOptions Refusal
+outcomes_with timed any_time (Some words) (Some states) (Ok run) =
+    Ok (record { run = run; timed = timed; any_time = any_time; words = words; states = states })
+outcomes_with timed any_time (Some words) (Some states) (Err r) = Err r
+outcomes_with timed any_time _ _ run = Err (refusal.Usage 4)
 
 -- a number of turns is given only where `--timed` is
 abbrev pub may_count : Bool → Texts → Bool
 may_count timed t = timed || (is_none t.turns0 && is_none t.turns1)
 
--- by whether `--timed` was given, the texts of `--word` and `--states`, and those of a run
+-- `--timed` and `--any-time` do not go together
+abbrev pub may_stand : Bool → Bool → Texts → Bool
+may_stand timed any_time t = may_count timed t && not (timed && any_time)
+
+-- by whether `--timed` and `--any-time` were given, the texts of `--word` and `--states`, and those
+-- of a run
 abbrev pub outcomes_in :
-    Bool → List Text → Option Text → Texts → Result OutcomeOptions Refusal
-outcomes_in timed words states t =
-    if may_count timed t && nat_le (length words) most_words
-    then outcomes_with timed (places_of words) (said_or states_of 1000000 states) (judged_texts t)
+    Bool → Bool → List Text → Option Text → Texts → Result OutcomeOptions Refusal
+outcomes_in timed any_time words states t =
+    if may_stand timed any_time t && nat_le (length words) most_words
+    then outcomes_with timed any_time (places_of words) (said_or states_of 1000000 states)
+    (judged_texts t)
     else Err (refusal.Usage 3)
 
 abbrev pub outcomes_by : Option (List Row) → Result OutcomeOptions Refusal
@@ -95,6 +104,7 @@ outcomes_by None = Err (refusal.Usage 3)
 outcomes_by (Some rows) =
     outcomes_in
     (is_set (first_of (codes "timed") rows))
+    (is_set (first_of (codes "any-time") rows))
     (word_texts rows)
     (first_of (codes "states") rows)
     (texts_of rows)

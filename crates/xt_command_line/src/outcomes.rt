@@ -4,7 +4,7 @@ ghost use Rattle.xt_command_line.specs.MeaningAnswers.{Means};
 ghost use Rattle.clap.specs.Words.{first_of};
 ghost use Rattle.xt_command_line.specs.Options.{judged_texts, said_or, texts_of};
 ghost use Rattle.xt_command_line.specs.Simple.{Matches, rows_by};
-ghost use Rattle.xt_command_line.specs.Outcomes.{AreOutcomeOptions, is_place, may_count, outcomes_app, outcomes_of, outcomes_with, place_of, places_of, states_of, word_texts};
+ghost use Rattle.xt_command_line.specs.Outcomes.{AreOutcomeOptions, is_place, may_count, may_stand, outcomes_app, outcomes_of, outcomes_with, place_of, places_of, states_of, word_texts};
 
 use crate::command::Refusal;
 use crate::numbers::number;
@@ -17,7 +17,7 @@ use std::alloc::{AllocError, Global};
 use xt_map::is_in_memory;
 
 // The arguments of `outcomes`.
-const ARGUMENTS: [(Form, &str); 9] = [
+const ARGUMENTS: [(Form, &str); 10] = [
     (Form::Text, "turns0"),
     (Form::Text, "turns1"),
     (Form::Text, "entry1"),
@@ -27,6 +27,7 @@ const ARGUMENTS: [(Form, &str); 9] = [
     (Form::Text, "states"),
     (Form::Texts, "word"),
     (Form::Flag, "timed"),
+    (Form::Flag, "any-time"),
 ];
 
 /// How many worlds are kept at most, where no word says it.
@@ -45,6 +46,8 @@ pub struct OutcomeOptions {
     pub run: RunOptions,
     /// Whether each core has the turns that the options give it (`--timed`).
     pub timed: bool,
+    /// Whether an armed timer may fire before any turn (`--any-time`).
+    pub any_time: bool,
     /// The addresses of the words that belong to an outcome (`--word`).
     pub words: Addresses,
     /// How many worlds are kept at most (`--states`).
@@ -106,15 +109,23 @@ fn may_count(timed: bool, matches: &Matched<'_>) -> bool
     timed || (matches.text("turns0").is_none() && matches.text("turns1").is_none())
 }
 
+// Whether the flags stand together, and with the numbers of turns.
+fn may_stand(timed: bool, any_time: bool, matches: &Matched<'_>) -> bool
+    ensures { result ≡ may_stand timed any_time (texts_of matches.now) }
+{
+    may_count(timed, matches) && !(timed && any_time)
+}
+
 // The options that the texts of `--word` and `--states` and those of a run say, or the first rule of usage that they
 // break.
 fn options_with(
     alloc: Global,
     timed: bool,
+    any_time: bool,
     words: &[&str],
     matches: &Matched<'_>,
 ) -> Result<OutcomeOptions, Refusal>
-    ensures means { Means result (outcomes_with timed (places_of (map (λ text. text.now) words.now)) (said_or states_of 1000000 (first_of (codes "states") matches.now)) (judged_texts (texts_of matches.now))) }
+    ensures means { Means result (outcomes_with timed any_time (places_of (map (λ text. text.now) words.now)) (said_or states_of 1000000 (first_of (codes "states") matches.now)) (judged_texts (texts_of matches.now))) }
     ensures valid { IfOk result AreOutcomeOptions }
 {
     let places = places_of(alloc, words)?;
@@ -124,6 +135,7 @@ fn options_with(
             Ok(OutcomeOptions {
                 run,
                 timed,
+                any_time,
                 words,
                 states,
             })
@@ -143,10 +155,10 @@ fn outcomes_matches<'a>(alloc: Global, words: &'a [String]) -> Result<Matched<'a
 ///
 /// The words are read as a simple command of `clap` with the options `--turns0 N`, `--turns1 N`, `--entry1 N`,
 /// `--vecbase N`, `--stack0 LO:HI` and `--stack1 LO:HI`, as for `run`, `--states N`, whose default is 1,000,000, and
-/// `--word N`, which may stand four times, and the flag `--timed`. `Usage` has the first rule that the words break: 3 they
-/// do not match, a fifth word stands there, or `--turns0` or `--turns1` without `--timed`, 4 a text is no number or range,
-/// the one of `--states` none from 1 to 16,000,000, or that of a word no multiple of 4 in a region of memory, 5 to 8 as for
-/// `run`. `Memory` says only that memory ran out.
+/// `--word N`, which may stand four times, and the flags `--timed` and `--any-time`. `Usage` has the first rule that the
+/// words break: 3 they do not match, a fifth word stands there, both flags do, or `--turns0` or `--turns1` without
+/// `--timed`, 4 a text is no number or range, the one of `--states` none from 1 to 16,000,000, or that of a word no multiple
+/// of 4 in a region of memory, 5 to 8 as for `run`. `Memory` says only that memory ran out.
 pub fn outcomes_options(alloc: Global, words: &[String]) -> Result<OutcomeOptions, Refusal>
     ensures means { Means result (outcomes_of (map string_bytes words.now)) }
     ensures valid { IfOk result AreOutcomeOptions }
@@ -154,8 +166,9 @@ pub fn outcomes_options(alloc: Global, words: &[String]) -> Result<OutcomeOption
     let matches = outcomes_matches(alloc, words)?;
     let places = matches.texts("word").unwrap_or(&[]);
     let timed = matches.is_given("timed");
-    if !may_count(timed, &matches) || places.len() > MOST_WORDS {
+    let any_time = matches.is_given("any-time");
+    if !may_stand(timed, any_time, &matches) || places.len() > MOST_WORDS {
         return Err(Refusal::Usage(3));
     }
-    options_with(alloc, timed, places, &matches)
+    options_with(alloc, timed, any_time, places, &matches)
 }

@@ -1,5 +1,5 @@
 use crate::ends::left_past;
-use crate::file::OwnFile;
+use crate::file::CursorFile;
 use crate::replies::next_turn;
 use std::alloc::{AllocError, Global};
 use std::marker::Model;
@@ -9,13 +9,25 @@ use xt_map::{Constants, Entry};
 use xt_trace::{Records, Run, StepRecord};
 
 /// The records of one core of a run, made again one by one. Contracts see the list of the records that are left.
-#[derive(Drop)]
 pub struct Cursor<'a> {
     code: Constants<'a>,
     core: u8,
-    regs: Regs<OwnFile>,
+    regs: Regs<CursorFile>,
     left: u32,
     entries: &'a [Entry],
+}
+
+// A `drop` of its own is one call at each place where a value is dropped.
+impl Drop for Cursor<'_> {
+    fn drop(self) {
+        let Cursor {
+            code: _,
+            core: _,
+            regs: _,
+            left: _,
+            entries: _,
+        } = self;
+    }
 }
 
 impl<'a> Model for Cursor<'a> {
@@ -60,7 +72,7 @@ impl<'a> Cursor<'a> {
         Ok(Cursor {
             code: Constants::make(alloc, image.segments.as_slice())?,
             core,
-            regs: Regs::open(core, entry, options.vecbase, stack.hi, OwnFile::new()),
+            regs: Regs::open(core, entry, options.vecbase, stack.hi, CursorFile::new()),
             left: turns,
             entries: run.history.as_slice(),
         })

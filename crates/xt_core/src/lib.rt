@@ -16,5 +16,7 @@ pub use begin::Begin;
 pub use begun::StartedTurn;
 pub use cores::Core;
 pub use cursor::Cursor;
+pub use ends::left_past;
 pub use links::stack_links;
-pub use turn::{begin as start_turn, end as end_turn};
+pub use replies::Replies;
+pub use turn::{begin as start_turn, end as end_turn, head_of, started};

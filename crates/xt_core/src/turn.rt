@@ -1,7 +1,8 @@
-ghost use Rattle.std.specs.Prelude.{◌≡◌, ℕ, None};
+ghost use Rattle.std.specs.Prelude.{◌≡◌, ◌<◌, ℕ, None};
 ghost use Rattle.xt_map.specs.Memory.{constant_byte};
 ghost use Rattle.xt_rows.specs.RowLaws.{IsRegister};
-ghost use Rattle.xt_fetch.specs.Fetching.{fetch_at};
+ghost use Rattle.xt_map.specs.Fetching.{fetch_at};
+ghost use Rattle.xt_exec.specs.State.{State};
 ghost use Rattle.xt_exec.specs.States.{state_of};
 ghost use Rattle.xt_exec.specs.Turn.{fetched_turn, planned_turn, turn};
 ghost use Rattle.xt_exec.specs.Halves.{IsPlan, at_end};
@@ -26,7 +27,17 @@ pub fn begin<W: Windows>(r: &mut Regs<W>, code: &Constants) -> StartedTurn
     ensures { IsBegun result (constant_byte code.now) (state_of W.regs W.base W.start r.old) (state_of W.regs W.base W.start r.new) }
 {
     let head = head_of(r);
-    match start_turn(r, code) {
+    let plan = start_turn(r, code);
+    started(r, head, plan)
+}
+
+/// The first half of a turn that began with `head` and has come to `plan`. A turn that makes no access is whole.
+#[inline(always)]
+pub fn started<W: Windows>(r: &mut Regs<W>, head: Head, plan: Plan) -> StartedTurn
+    ensures { (code : ℕ → ℕ) (s : State) → head ≡ head_of s → IsPlan plan s (state_of W.regs W.base W.start r.old) (planned_turn code s)
+        → IsBegun result code s (state_of W.regs W.base W.start r.new) }
+{
+    match plan {
         Plan::Done(effect) => {
             tick(r);
             StartedTurn::Local(turn_record(head, effect, None, 0))
@@ -91,10 +102,11 @@ fn tick<W: Windows>(r: &mut Regs<W>)
     xt_special::timers::tick(&mut r.sr);
 }
 
-// What a record keeps of the registers as the turn begins.
+/// What a record keeps of the registers as the turn begins.
 #[inline(always)]
-fn head_of<W: Windows>(r: &Regs<W>) -> Head
-    ensures { result ≡ head_of (state_of W.regs W.base W.start r.now) }
+pub fn head_of<W: Windows>(r: &Regs<W>) -> Head
+    ensures value { result ≡ head_of (state_of W.regs W.base W.start r.now) }
+    ensures owb { result.owb < 16 }
 {
     Head {
         pc: r.pc,

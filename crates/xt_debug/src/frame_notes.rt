@@ -158,10 +158,10 @@ pub fn push_frames(alloc: Global, out: &mut String, frames: &Frames) -> Result<(
 pub fn with_note(alloc: Global, line: Text, note: &str) -> Result<Text, AllocError>
     ensures { IfOk result (λ text. text ≡ with_note line note.now) }
 {
-    if line.is_empty() {
+    let bytes = line.as_slice();
+    if bytes.is_empty() {
         return Ok(line);
     }
-    let bytes = line.as_slice();
     let mut out = Vec::new(alloc);
     out.extend_from_slice(&bytes[..bytes.len() - 1])?;
     out.extend_from_slice(note.as_bytes())?;

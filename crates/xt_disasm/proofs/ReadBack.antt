@@ -21,15 +21,15 @@ use Rattle.xt_names.specs.Specials.{reaches}
 use Rattle.xt_names.proofs.Found.{found}
 use Rattle.xt_names.proofs.InRange.{fits, in_range_fits, is_near, is_word as in_word, whole}
 use Rattle.xt_names.proofs.Specials.{all_named}
-use Rattle.xt_mnemonic.specs.declared.argument.Argument.TheVariants as argument
-use Rattle.xt_mnemonic.specs.declared.argument.OperandFault.{OperandFault}
-use Rattle.xt_mnemonic.specs.declared.argument.OperandFault.TheVariants.{Range, Misaligned, OutOfReach}
+use Rattle.xt_names.specs.declared.argument.Argument.TheVariants as argument
+use Rattle.xt_names.specs.declared.argument.OperandFault.{OperandFault}
+use Rattle.xt_names.specs.declared.argument.OperandFault.TheVariants.{Range, Misaligned, OutOfReach}
 use Rattle.xt_isa.specs.declared.Insn.{Insn}
 use Rattle.xt_isa.specs.Ranges.{call_within, in_range, literal_within, signed_within}
 use Rattle.xt_names.specs.Insns.{insn_of}
 use Rattle.xt_names.specs.Names.{mnemonic_of}
-use Rattle.xt_mnemonic.specs.Making.{if_in_range, instruction_of, parts_in}
-use Rattle.xt_mnemonic.specs.Operands.{all_known, and_then, call_offset, call_reaches, offset_from, is_aligned, is_word, literal_offset, literal_reaches}
+use Rattle.xt_names.specs.Making.{if_in_range, instruction_of, parts_in}
+use Rattle.xt_names.specs.Operands.{all_known, and_then, call_offset, call_reaches, offset_from, is_aligned, is_word, literal_offset, literal_reaches}
 use Rattle.xt_disasm.specs.Operands.{address_from, call_target, jump_target, literal_target, operands}
 use Rattle.xt_disasm.specs.Reading.{IsReadBack, arguments_of}
 

@@ -15,11 +15,11 @@ use Rattle.xt_names.specs.Forms.{shapes_of}
 use Rattle.xt_names.specs.Names.{mnemonic_of, name_of}
 use Rattle.xt_names.specs.InsnParts.{mnemonic_in, parts_of}
 use Rattle.xt_names.specs.Specials.{special_number}
-use Rattle.xt_mnemonic.specs.declared.argument.Argument.{Argument}
-use Rattle.xt_mnemonic.specs.declared.argument.Argument.TheVariants as argument
-use Rattle.xt_mnemonic.specs.declared.argument.OperandFault.{OperandFault}
-use Rattle.xt_mnemonic.specs.Making.{instruction_of}
-use Rattle.xt_mnemonic.specs.Operands.{all_known}
+use Rattle.xt_names.specs.declared.argument.Argument.{Argument}
+use Rattle.xt_names.specs.declared.argument.Argument.TheVariants as argument
+use Rattle.xt_names.specs.declared.argument.OperandFault.{OperandFault}
+use Rattle.xt_names.specs.Making.{instruction_of}
+use Rattle.xt_names.specs.Operands.{all_known}
 use Rattle.xt_disasm.specs.declared.operand.Operand.{Operand}
 use Rattle.xt_disasm.specs.declared.operand.Operand.TheVariants.{Register, Boolean, Number, Target}
 use Rattle.xt_disasm.specs.declared.operand.Operand.TheVariants.{Special}

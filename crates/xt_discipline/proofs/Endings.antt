@@ -1,7 +1,7 @@
 -- L32E and S32E end no stretch.
 use Rattle.std.proofs.Common.{◌≡◌, ℕ, ◌+◌, ◌/◌, ◌%◌, Bool, false, Option, Some, None, refl, ◌∙◌, ap, arith}
 use Rattle.xt_isa.specs.Spelling.{all_rows, fields_at, length_of, spelled_insn}
-use Rattle.xt_fetch.specs.Fetching.{fetch_at, fetched_length, fetched_past, read_as, unfetchable}
+use Rattle.xt_map.specs.Fetching.{fetch_at, fetched_length, fetched_past, read_as, unfetchable}
 use Rattle.xt_frames.specs.HandlerSteps.{ends_stretch, fetched_ends}
 
 load : (t s r len : ℕ) → fetched_ends (read_as (spelled_insn (record { op0 = 0; t = t; s = s; r = r; op1 = 9; op2 = 0 })) len) ≡ false

@@ -3,6 +3,7 @@ pub mod Lives
 pub mod Known
 pub mod Calls
 pub mod Moved
+pub mod ByRole
 pub mod Seeing
 pub mod Walking
 pub mod Opens

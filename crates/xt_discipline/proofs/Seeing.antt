@@ -1,41 +1,34 @@
 -- A record of a core, as the definition of the verdict sees it.
 use Rattle.std.proofs.Common.{◌≡◌, ℕ, suc, ◌+◌, ◌≤◌, ◌==◌, Bool, true, false, ◌&&◌, ◌||◌, Option, None, Result, Ok, Err, List, length, refl, sym, ◌∙◌, ap, subst, arith}
-use Rattle.std.proofs.lemmas.Bool.{eq-eqb, ne_eqb, cond-true, cond-false}
+use Rattle.std.proofs.lemmas.Bool.{eq-eqb}
 use Rattle.xt_map.specs.declared.access.Access.{Access}
 use Rattle.xt_trace.specs.declared.record.StepRecord.{StepRecord}
 use Rattle.xt_frames.specs.declared.kinds.Breach.{Breach}
 use Rattle.xt_frames.specs.declared.kinds.BreachKind.{BreachKind}
 use Rattle.xt_frames.specs.Frames.{Frame, FrameState}
-use Rattle.xt_frames.specs.FrameStep.{with_inputs}
 use Rattle.xt_frames.specs.SaveAreas.{is_live}
-use Rattle.xt_frames.specs.Breaches.{Bounds, breach_of, inputs_of, stale_after, stores_at, window_breach}
+use Rattle.xt_frames.specs.Breaches.{Bounds, breach_of, stale_after, stores_at}
 use Rattle.xt_frames.specs.Stacks.{Moves, Stays, Calls, Stack}
 use Rattle.xt_frames.specs.Stacks as moves
 use Rattle.xt_frames.specs.declared.kinds.HandlerPhase.{HandlerPhase}
-use Rattle.xt_frames.specs.declared.kinds.HandlerPhase.TheVariants.{Outside, InHandler, Nested}
-use Rattle.xt_frames.specs.HandlerSteps.{is_window, phase_after}
-use Rattle.xt_frames.specs.Nesting.{current, is_nesting}
-use Rattle.xt_frames.specs.Judging.{Standing, Seen, Handled, seen_record, seen_in, seen_judged, seen_plain, seen_step, seen_window, fresh_on, step_on}
+use Rattle.xt_frames.specs.HandlerSteps.{phase_after}
+use Rattle.xt_frames.specs.Judging.{Standing, Seen, seen_record, seen_step, fresh_on, step_on}
 use Rattle.std.specs.Prelude.{IfOk}
 use Rattle.xt_frames.specs.Walked.{IsBreach, IsJudged, Walked, found_in, fresh_before, walked_past}
 use Rattle.xt_discipline.specs.declared.bytes.Held.{Held}
 use Rattle.xt_discipline.specs.declared.side.Areas.{Areas}
+use Rattle.xt_discipline.specs.declared.roles.Role.{Role}
 use Rattle.xt_discipline.specs.declared.side.Side.{Side}
 use Rattle.xt_discipline.specs.declared.bytes.Change.TheVariants.{Stored}
 use Rattle.xt_discipline.specs.ByteMarks.{AreChanged, KnowsOf, either}
-use Rattle.xt_discipline.specs.Sides.{Begins, IsCallOf, IsFollowed, IsPast, IsSeen, IsSide, live_in, standing_of}
+use Rattle.xt_discipline.specs.Phases.{role_of}
+use Rattle.xt_discipline.specs.Sides.{IsCallOf, IsFollowed, IsPast, IsSeen, IsSide, live_in, standing_of}
 use Rattle.xt_discipline.proofs.Moved.{known_moves}
-
-pub late : (x : Bool) (next steps : ℕ) → next ≤ steps → (x && (next == steps + 1)) ≡ false
-late true next steps h = ne_eqb next (steps + 1) (λ e. let at : next ≡ steps + 1 = e in omega arith)
-late false next steps h = refl
+use Rattle.xt_discipline.proofs.ByRole.{seen_as, seen_is}
 
 pub at_last : (x : Bool) (n : ℕ) → (x && (n == n)) ≡ x
 at_last true n = eq-eqb n n refl
 at_last false n = refl
-
-pub le_more : (a b : ℕ) → a ≤ b → a ≤ b + 1
-le_more a b h = omega arith
 
 pub le_same : (a : ℕ) → a ≤ a
 le_same a = omega arith
@@ -51,78 +44,17 @@ breach_is b core step e f =
     let at : ℕ → ℕ → Breach = λ c s. record { core = c; step = s; kind = b.kind } in
     ap (λ (c : ℕ). at c b.step) e ∙ ap (λ (s : ℕ). at core s) f
 
--- ---- handler steps
-pub handled_seen : (old new : Side) (marks : List Held) (others stale : ℕ → Bool) (code : ℕ → ℕ) (rec : StepRecord) (u : Unit) (next : HandlerPhase) → old.phase ≡ InHandler → is_nesting rec.kind ≡ false
-    → next ≡ phase_after code old.phase rec → IsSide old
-    → new ≡ record old { phase = next; steps = old.steps + 1 } → KnowsOf old.core marks (live_in old.frames) others stale
-    → IsSeen old new marks others stale (seen_record code old.frames.bounds (standing_of old) others stale rec) (Ok u)
-handled_seen old new marks others stale code rec u next h q n k e known =
-    let st = standing old.frames.state false (phase_after code old.phase rec) in
-    let z : seen_record code old.frames.bounds (standing_of old) others stale rec ≡ Handled st = ap (λ (m : HandlerPhase). seen_in m code old.frames.bounds (standing_of old) others stale rec) h ∙ cond-false (is_nesting rec.kind) _ _ q in
-    let P : Side → Type 0 = λ n. IsPast old n marks others stale st in
-    let past = k.past in
-    let is : standing old.frames.state (old.frames.fresh && (old.frames.next == old.steps + 1)) next ≡ st =
-    ap (λ (b : Bool). standing old.frames.state b next) (late old.frames.fresh old.frames.next old.steps past) ∙ ap (λ (m : HandlerPhase). standing old.frames.state false m) n in
-    let there : P (record old { phase = next; steps = old.steps + 1 }) = record {
-      side = record { core_is = k.core_is; end_is = k.end_is; low = k.low; high = k.high; past = le_more old.frames.next old.steps past };
-      core_is = refl;
-      bounds_are = refl;
-      steps_are = next_is old.steps;
-      standing_is = is;
-      marks_are = known;
-    } in
-    subst (λ (s : Seen). IsSeen old new marks others stale s (Ok u)) (sym z) (subst P (sym e) there)
-
--- ---- records outside handler steps
-plain_seen : (old : Side) (others stale : ℕ → Bool) (code : ℕ → ℕ) (rec : StepRecord) → old.phase ≡ Outside
-    → seen_record code old.frames.bounds (standing_of old) others stale rec ≡ seen_plain code old.frames.bounds (standing_of old) others stale rec
-plain_seen old others stale code rec h = ap (λ (m : HandlerPhase). seen_in m code old.frames.bounds (standing_of old) others stale rec) h
-
-pub begin_seen : (old new : Side) (marks : List Held) (others stale : ℕ → Bool) (code : ℕ → ℕ) (rec : StepRecord) (r : Result Unit Breach) → old.phase ≡ Outside → is_window rec.kind ≡ true → IsSide old
-    → Begins (window_breach code rec.kind (with_inputs (inputs_of rec) (current old.frames.state))) old r new → KnowsOf old.core marks (live_in old.frames) others stale
+-- what the definition sees in a record, by what it is
+pub role_seen : (old new : Side) (marks : List Held) (others stale : ℕ → Bool) (code : ℕ → ℕ) (rec : StepRecord) (role : Role) (r : Result Unit Breach) → role ≡ role_of old.phase rec.kind
+    → IsSeen old new marks others stale (seen_as code old.frames.bounds (standing_of old) others stale rec role) r
     → IsSeen old new marks others stale (seen_record code old.frames.bounds (standing_of old) others stale rec) r
-begin_seen old new marks others stale code rec (Ok u) h w k begins known =
-    let f = old.frames.state in
-    let st = standing f false InHandler in
-    let z = plain_seen old others stale code rec h ∙ (cond-true (is_window rec.kind) _ _ w ∙ ap (λ (o : Option BreachKind). seen_window o f) begins.0) in
-    let P : Side → Type 0 = λ n. IsPast old n marks others stale st in
-    let past = k.past in
-    let there : P (record old { phase = InHandler; steps = old.steps + 1 }) = record {
-      side = record { core_is = k.core_is; end_is = k.end_is; low = k.low; high = k.high; past = le_more old.frames.next old.steps past };
-      core_is = refl;
-      bounds_are = refl;
-      steps_are = next_is old.steps;
-      standing_is = ap (λ (b : Bool). standing f b InHandler) (late old.frames.fresh old.frames.next old.steps past);
-      marks_are = known;
-    } in
-    subst (λ (s : Seen). IsSeen old new marks others stale s (Ok u)) (sym z) (subst P (sym begins.1) there)
-begin_seen old new marks others stale code rec (Err b) h w k begins known =
-    let f = old.frames.state in
-    let z = plain_seen old others stale code rec h ∙ (cond-true (is_window rec.kind) _ _ w ∙ ap (λ (o : Option BreachKind). seen_window o f) begins.0) in
-    let r : Result Unit Breach = Err b in
-    subst (λ (s : Seen). IsSeen old new marks others stale s r) (sym z) (breach_is b old.core old.steps (begins.1 ∙ k.core_is) begins.2)
+role_seen old new marks others stale code rec role r e seen =
+    subst (λ (x : Seen). IsSeen old new marks others stale x r) (sym (seen_is code old.frames.bounds (standing_of old) others stale rec role e)) seen
 
 abbrev pub found_by : Side → (ℕ → Bool) → (ℕ → Bool) → (ℕ → ℕ) → Bool → StepRecord → Option BreachKind
 found_by old others stale code nested rec = breach_of old.frames.bounds (fresh_before old.frames old.steps) code (either (live_in old.frames) others) stale nested rec old.frames.state
 
 -- ---- judged records
-pub plain_judged : (old : Side) (others stale : ℕ → Bool) (code : ℕ → ℕ) (rec : StepRecord) → old.phase ≡ Outside → is_window rec.kind ≡ false
-    → seen_record code old.frames.bounds (standing_of old) others stale rec ≡ seen_judged code old.frames.bounds (standing_of old) others stale false rec
-plain_judged old others stale code rec h w = plain_seen old others stale code rec h ∙ cond-false (is_window rec.kind) _ _ w
-
-pub nesting_judged : (old : Side) (others stale : ℕ → Bool) (code : ℕ → ℕ) (rec : StepRecord) → old.phase ≡ InHandler → is_nesting rec.kind ≡ true
-    → seen_record code old.frames.bounds (standing_of old) others stale rec ≡ seen_judged code old.frames.bounds (standing_of old) others stale true rec
-nesting_judged old others stale code rec h w =
-    ap (λ (m : HandlerPhase). seen_in m code old.frames.bounds (standing_of old) others stale rec) h ∙ cond-true (is_nesting rec.kind) _ _ w
-
-pub nested_judged : (old : Side) (others stale : ℕ → Bool) (code : ℕ → ℕ) (rec : StepRecord) → old.phase ≡ Nested
-    → seen_record code old.frames.bounds (standing_of old) others stale rec ≡ seen_judged code old.frames.bounds (standing_of old) others stale true rec
-nested_judged old others stale code rec h = ap (λ (m : HandlerPhase). seen_in m code old.frames.bounds (standing_of old) others stale rec) h
-
-pub step_seen : (old new : Side) (marks : List Held) (others stale : ℕ → Bool) (s t : Seen) (r : Result Unit Breach) → s ≡ t
-    → IsSeen old new marks others stale t r → IsSeen old new marks others stale s r
-step_seen old new marks others stale s t r same judged = subst (λ (x : Seen). IsSeen old new marks others stale x r) (sym same) judged
-
 -- a judged step that shows no breach
 pub judged_past : (old new : Side) (frames : Walked) (marks : List Held) (others stale : ℕ → Bool) (code : ℕ → ℕ) (rec : StepRecord) (found : Option BreachKind) (u : Unit) (nested : Bool) (next_phase : HandlerPhase)
     → next_phase ≡ phase_after code old.phase rec → IsSide old → found ≡ None → frames ≡ walked_past old.frames code old.steps nested rec → new ≡ record old { frames = frames; phase = next_phase; steps = old.steps + 1 }

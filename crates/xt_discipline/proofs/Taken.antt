@@ -1,5 +1,5 @@
 -- What a turn takes from the records of both cores.
-use Rattle.std.proofs.Common.{◌≡◌, ℕ, zero, suc, Result, Ok, Err, OnOk, List, [], ◌∷◌, Option, Some, None, refl, sym, ap, subst, ◌∙◌}
+use Rattle.std.proofs.Common.{◌≡◌, ℕ, Result, Ok, Err, OnOk, List, [], ◌∷◌, Option, Some, None, refl, sym, ap, subst}
 use Rattle.xt_trace.specs.declared.record.StepRecord.{StepRecord}
 use Rattle.xt_trace.specs.Left.{first_of, rest_of}
 use Rattle.xt_frames.specs.declared.kinds.Judged.{Judged}

@@ -5,8 +5,7 @@ ghost use Rattle.std.specs.Prelude.{◌≡◌, ◌<◌, ◌+◌, ◌^◌, ℕ, B
 ghost use Rattle.xt_map.specs.Memory.{constant_byte};
 ghost use Rattle.xt_frames.specs.Frames.{FrameState};
 ghost use Rattle.xt_frames.specs.FrameStep.{with_inputs};
-ghost use Rattle.xt_fetch.specs.Fetching.{fetch_at};
-ghost use Rattle.xt_frames.specs.HandlerSteps.{closes, ends_stretch, fetched_ends, is_window, phase_after, returns};
+ghost use Rattle.xt_frames.specs.HandlerSteps.{phase_after};
 ghost use Rattle.xt_frames.specs.Judging.{seen_record, seen_judged};
 ghost use Rattle.xt_frames.specs.Nesting.{current};
 ghost use Rattle.xt_frames.specs.Stacks.{Moves, Stack};
@@ -18,13 +17,10 @@ ghost use Rattle.xt_discipline.specs.Sides.{Begins, IsCallOf, IsFollowed, IsSeen
 use crate::accesses::{loads, saves};
 use crate::bytes::{Change, Held, change_bytes};
 use crate::calling::{areas, newest};
-use xt_codec::{Fetch, instruction_at};
-use xt_fetch::code_three;
-use xt_frames::{Breach, Frames, HandlerPhase, ends_nested, is_nesting};
-use xt_isa::Insn;
-use xt_isa::system::{ExceptionReturnName, System};
+use crate::roles::{Role, phase_after, role_of};
+use xt_frames::{Breach, Frames, HandlerPhase};
 use xt_map::{Access, Constants, Kind};
-use xt_trace::{StepKind, StepRecord};
+use xt_trace::StepRecord;
 
 /// The two save areas of a call.
 #[derive(Clone, Copy)]
@@ -73,78 +69,6 @@ pub fn store(marks: &mut [Held], access: Option<Access>)
             );
         }
     }
-}
-
-#[tactic(auto, unfolding(xt_frames::specs::HandlerSteps::ends_stretch))]
-fn ends_stretch(insn: Insn) -> bool
-    ensures { result ≡ ends_stretch insn }
-{
-    matches!(
-        insn,
-        Insn::System(System::ExceptionReturn(ExceptionReturnName::Rfwo | ExceptionReturnName::Rfwu))
-    )
-}
-
-/// Whether the bytes at an address are those of L32E or S32E, of which most of a handler is.
-fn reaches_frames(code: &Constants, pc: u32) -> bool
-    ensures { result ≡ true → fetched_ends (fetch_at (constant_byte code.now) pc) ≡ false }
-{
-    if 0xFFFF_FFF0 < pc {
-        return false;
-    }
-    let (first, _second, third) = code_three(code, pc);
-    if first % 16 != 0 {
-        return false;
-    }
-    match third {
-        0x09 => true,
-        0x49 => true,
-        _ => false,
-    }
-}
-
-/// Whether the bytes at an address are those of RFWO or RFWU.
-fn ends_at(code: &Constants, pc: u32) -> bool
-    ensures { result ≡ fetched_ends (fetch_at (constant_byte code.now) pc) }
-{
-    // (told apart first, since decoding takes longer)
-    if reaches_frames(code, pc) {
-        return false;
-    }
-    match instruction_at::<StepRecord>(code, pc) {
-        Fetch::Insn(insn, _) => ends_stretch(insn),
-        _ => false,
-    }
-}
-
-/// Whether a record is of an RFWO or RFWU, by the bytes at its PC.
-pub fn closes(code: &Constants, rec: &StepRecord) -> bool
-    ensures { result ≡ closes (constant_byte code.now) rec.now.kind rec.now.pc }
-{
-    match rec.kind {
-        StepKind::Insn => ends_at(code, rec.pc),
-        _ => false,
-    }
-}
-
-/// Whether a record is of an RFI 5, by the bytes at its PC.
-pub fn returns(code: &Constants, rec: &StepRecord) -> bool
-    ensures { result ≡ returns (constant_byte code.now) rec.now.kind rec.now.pc }
-{
-    match rec.kind {
-        StepKind::Insn => match instruction_at::<Side>(code, rec.pc) {
-            Fetch::Insn(insn, _) => ends_nested(insn),
-            _ => false,
-        },
-        _ => false,
-    }
-}
-
-/// Whether a record is that of a window exception.
-pub fn is_window(kind: StepKind) -> bool
-    ensures { result ≡ is_window kind }
-{
-    matches!(kind, StepKind::Window(_))
 }
 
 impl Side {
@@ -240,30 +164,15 @@ impl Side {
             → IsSeen self.old self.new marks.new others stale
             (seen_record (constant_byte code.now) self.old.frames.bounds (standing_of self.old) others stale rec.now) result }
     {
-        match self.phase {
-            HandlerPhase::Outside => {
-                if is_window(rec.kind) {
-                    return self.begin(code, rec);
-                }
-                self.judge(code, marks, rec, false, HandlerPhase::Outside)
-            }
-            HandlerPhase::InHandler => {
-                if is_nesting(rec.kind) {
-                    return self.judge(code, marks, rec, true, HandlerPhase::Nested);
-                }
-                if closes(code, rec) {
-                    self.phase = HandlerPhase::Outside;
-                }
+        let next = phase_after(code, self.phase, rec);
+        match role_of(self.phase, rec.kind) {
+            Role::Own => self.judge(code, marks, rec, false, next),
+            Role::NestedStep => self.judge(code, marks, rec, true, next),
+            Role::Entry => self.begin(code, rec),
+            Role::HandlerStep => {
+                self.phase = next;
                 self.steps += 1;
                 Ok(())
-            }
-            HandlerPhase::Nested => {
-                let next = if returns(code, rec) {
-                    HandlerPhase::InHandler
-                } else {
-                    HandlerPhase::Nested
-                };
-                self.judge(code, marks, rec, true, next)
             }
         }
     }

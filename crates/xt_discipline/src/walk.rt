@@ -21,21 +21,32 @@ ghost use Rattle.xt_discipline.specs.Walks.{IsOpened, IsTurned, Knows, Turns, fo
 
 use crate::bytes::{Change, Held, change_bytes, nothing};
 use crate::order::ScheduleIter;
+use crate::roles::role_of;
 use crate::side::Side;
-use crate::stepping::step_phase;
 use std::alloc::{AllocError, Global};
 use xt_frames::{Frames, HandlerPhase, Judged};
 use xt_map::Constants;
 use xt_trace::{Options, Records, Run, StepKind};
 
 /// The walk of the judge so far: what it knows of both cores past the turns that were made.
-#[derive(Drop)]
 pub struct Walk<'a> {
     code: Constants<'a>,
     side0: Side,
     side1: Side,
     // What is known of each byte of internal data memory.
     marks: Vec<Held>,
+}
+
+// A `drop` of its own is one call at each place where a value is dropped.
+impl Drop for Walk<'_> {
+    fn drop(self) {
+        let Walk {
+            code: _,
+            side0: _,
+            side1: _,
+            marks: _,
+        } = self;
+    }
 }
 
 /// A core as it opens.
@@ -71,11 +82,7 @@ fn open_stacks(marks: &mut [Held], hi0: u32, hi1: u32)
 fn unmarked(alloc: Global, count: u32) -> Result<Vec<Held>, AllocError>
     ensures { IfOk result (λ marks. marks.items ≡ replicate count nothing) }
 {
-    let mut marks = Vec::with_capacity(alloc, count as usize)?;
-    for _byte in 0..count {
-        marks.push(nothing())?;
-    }
-    Ok(marks)
+    vec![in alloc; nothing(); count as usize]
 }
 
 /// What is known of the bytes as both cores open.
@@ -160,11 +167,12 @@ impl<'a> Walk<'a> {
         requires { core < 2 }
         ensures { result ≡ step_phase (phase_in core self.now) kind }
     {
-        if core == 0 {
-            step_phase(self.side0.phase, kind)
+        let before = if core == 0 {
+            self.side0.phase
         } else {
-            step_phase(self.side1.phase, kind)
-        }
+            self.side1.phase
+        };
+        role_of(before, kind).phase()
     }
 
     /// The next record of this core, if it has one, which is taken: no breach, or what is judged of

@@ -5,7 +5,7 @@
 -- and the length of the instruction.
 use Rattle.std.specs.Prelude.{ℕ, ◌+◌, Bool, true, false, ◌==◌, ◌&&◌, ◌||◌, not, Option, Some, None}
 use Rattle.std.specs.Prelude.{is_some}
-use Rattle.xt_fetch.specs.Fetching.{Fetched, Fetches, Fails, SpellsNothing, fetch_at}
+use Rattle.xt_map.specs.Fetching.{Fetched, Fetches, Fails, SpellsNothing, fetch_at}
 use Rattle.xt_trace.specs.declared.record.StepKind.{StepKind}
 use Rattle.xt_trace.specs.declared.record.StepKind.TheVariants.{Insn, Window, Exc, Interrupt, Wait}
 use Rattle.xt_trace.specs.declared.record.StepKind.TheVariants.{Stop}

@@ -4,3 +4,6 @@ pub mod Filters
 pub mod Lines
 pub mod Left
 pub mod EventLaws
+pub mod Counts
+pub mod CountsText
+pub mod CountedTurns

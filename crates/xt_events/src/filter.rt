@@ -1,7 +1,7 @@
 //! Which turns of a run are printed.
 ghost use Rattle.std.specs.Prelude.{◌≡◌};
 ghost use Rattle.xt_map.specs.Memory.{constant_byte};
-ghost use Rattle.xt_fetch.specs.Fetching.{fetch_at};
+ghost use Rattle.xt_map.specs.Fetching.{fetch_at};
 ghost use Rattle.xt_events.specs.Filters.{everything, everything, holds, is_elsewhere, is_of, jumps};
 
 use crate::told::TurnLine;

@@ -1,7 +1,7 @@
 //! The line of a turn.
 ghost use Rattle.std.specs.Prelude.{◌≡◌, ◌++◌, OnOk, string_bytes};
 ghost use Rattle.xt_map.specs.Memory.{constant_byte};
-ghost use Rattle.xt_fetch.specs.Fetching.{fetch_at};
+ghost use Rattle.xt_map.specs.Fetching.{fetch_at};
 ghost use Rattle.xt_events.specs.Lines.{bare_line, fetched_text, hex4, kept_text, turn_text, window_text};
 
 use crate::filter::{Filter, holds};

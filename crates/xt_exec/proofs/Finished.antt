@@ -2,7 +2,7 @@
 use Rattle.std.proofs.Common.{◌≡◌, ℕ, true, false, ◌∙◌, ltb}
 use Rattle.std.proofs.lemmas.Bool.{cond-true, cond-false}
 use Rattle.xt_special.specs.Interrupts.{pending_of}
-use Rattle.xt_fetch.specs.Fetching.{fetch_at}
+use Rattle.xt_map.specs.Fetching.{fetch_at}
 use Rattle.xt_rows.specs.Settling.{settled_interrupt, settled_wait}
 use Rattle.xt_exec.specs.State.{State}
 use Rattle.xt_exec.specs.Turn.{planned_turn, in_window, fetched_turn}

@@ -51,7 +51,7 @@ use Rattle.xt_rows.specs.declared.outcome.WindowStep.TheVariants.{MovesStack, Re
 use Rattle.xt_rows.specs.declared.outcome.WindowStep.TheVariants.{Exchanges}
 use Rattle.xt_rows.specs.declared.outcome.Outcome.{Outcome}
 use Rattle.xt_rows.specs.declared.outcome.Outcome.TheVariants.{Windowed}
-use Rattle.xt_fetch.specs.Fetching.{Fetched, Fetches, Fails, SpellsNothing, fetch_at}
+use Rattle.xt_map.specs.Fetching.{Fetched, Fetches, Fails, SpellsNothing, fetch_at}
 use Rattle.xt_rows.specs.Operands.{highest_register}
 use Rattle.xt_rows.specs.Effects.{illegal_instruction, fetch_error, no_caller_window, write_to}
 use Rattle.xt_rows.specs.Outcomes.{outcome_at}

@@ -7,7 +7,7 @@ use Rattle.xt_map.specs.Regions.{is_mapped}
 use Rattle.xt_special.specs.Control.{Control}
 use Rattle.xt_special.specs.Shape.{IsPs, HasShape}
 use Rattle.xt_trace.specs.declared.record.StepRecord.{StepRecord}
-use Rattle.xt_fetch.specs.Code.{AreBytes}
+use Rattle.xt_map.specs.Code.{AreBytes}
 use Rattle.xt_rows.specs.RowLaws.{IsWord}
 use Rattle.xt_exec.specs.State.{State, opening_state}
 use Rattle.xt_exec.specs.Turn.{demand, turn}

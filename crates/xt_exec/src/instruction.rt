@@ -3,7 +3,7 @@ ghost use Rattle.xt_isa.specs.Ranges.{in_range};
 ghost use Rattle.xt_map.specs.Memory.{constant_byte};
 ghost use Rattle.xt_window.specs.Ring.{ahead, visible};
 ghost use Rattle.xt_rows.specs.Effects.{no_change};
-ghost use Rattle.xt_fetch.specs.Fetching.{Fetches};
+ghost use Rattle.xt_map.specs.Fetching.{Fetches};
 ghost use Rattle.xt_rows.specs.RowLaws.{AsksWith, IsAny, IsProper, IsProperAwaited, IsRegister};
 ghost use Rattle.xt_rows.specs.Outcomes.{outcome_at, value_of};
 ghost use Rattle.xt_exec.specs.States.{state_of};
@@ -182,20 +182,23 @@ impl<W: Windows> Regs<W> {
             }
         }
     }
+}
 
-    /// The first half of an instruction of this length.
-    #[inline(always)]
-    pub(crate) fn plan(&mut self, code: &Constants, i: Insn, len: u8) -> Plan
-        requires { in_range i ≡ true }
-        ensures { let s = state_of W.regs W.base W.start self.old in
-            IsPlan result s (state_of W.regs W.base W.start self.new) (fetched_turn (Fetches i len) (constant_byte code.now) s) }
-    {
-        if self.is_illegal(i) {
-            let e = self.raise(cause::ILLEGAL_INSTRUCTION, None);
-            self.outcome_turn(e)
-        } else {
-            self.execute(code, i, len)
-        }
+/// The first half of an instruction of this length: all of it, or, where it makes a bus access, what waits for the reply; then the
+/// registers are as before. The turn's tick is left to the caller.
+///
+/// Condition: the instruction's operands are in their ranges, as those of every instruction that is spelled.
+#[inline(always)]
+pub fn plan<W: Windows>(r: &mut Regs<W>, code: &Constants, insn: Insn, len: u8) -> Plan
+    requires { in_range insn ≡ true }
+    ensures { let s = state_of W.regs W.base W.start r.old in
+        IsPlan result s (state_of W.regs W.base W.start r.new) (fetched_turn (Fetches insn len) (constant_byte code.now) s) }
+{
+    if r.is_illegal(insn) {
+        let e = r.raise(cause::ILLEGAL_INSTRUCTION, None);
+        r.outcome_turn(e)
+    } else {
+        r.execute(code, insn, len)
     }
 }
 

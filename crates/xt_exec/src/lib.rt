@@ -10,5 +10,6 @@ pub mod plans;
 mod regs;
 mod windows;
 
-pub use halves::{finish, plan};
+pub use halves::finish;
+pub use instruction::plan;
 pub use regs::Regs;

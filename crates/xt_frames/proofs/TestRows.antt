@@ -7,7 +7,7 @@ use Rattle.xt_map.specs.declared.access.Access.{Access}
 use Rattle.xt_special.specs.Control.{Control}
 use Rattle.xt_special.specs.Interrupts.{pending_of}
 use Rattle.xt_trace.specs.declared.record.StepRecord.{StepRecord}
-use Rattle.xt_fetch.specs.Fetching.{Fetched, Fetches, fetch_at}
+use Rattle.xt_map.specs.Fetching.{Fetched, Fetches, fetch_at}
 use Rattle.xt_codec.specs.declared.fetch.Fetch.{Fetch}
 use Rattle.xt_codec.specs.declared.fetch.Fetch.TheVariants as fetch
 use Rattle.xt_codec.specs.Fetches.{IsFetched}

@@ -20,7 +20,7 @@ use Rattle.xt_map.specs.declared.access.Entry.{Entry}
 use Rattle.xt_map.specs.Touching.{is_store, touches}
 use Rattle.xt_trace.specs.declared.record.StepKind.{StepKind}
 use Rattle.xt_trace.specs.declared.record.StepRecord.{StepRecord}
-use Rattle.xt_fetch.specs.Fetching.{fetch_at}
+use Rattle.xt_map.specs.Fetching.{fetch_at}
 use Rattle.xt_frames.specs.declared.kinds.Breach.{Breach}
 use Rattle.xt_frames.specs.declared.kinds.BreachKind.{BreachKind}
 use Rattle.xt_frames.specs.Frames.{FrameState}

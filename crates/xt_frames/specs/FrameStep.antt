@@ -20,7 +20,7 @@ use Rattle.xt_rows.specs.declared.outcome.WindowStep.{WindowStep}
 use Rattle.xt_rows.specs.declared.outcome.WindowStep.TheVariants.{Enters, Returns}
 use Rattle.xt_rows.specs.declared.outcome.Outcome.{Outcome}
 use Rattle.xt_rows.specs.declared.outcome.Outcome.TheVariants.{Windowed}
-use Rattle.xt_fetch.specs.Fetching.{Fetched, Fetches, Fails, SpellsNothing, fetch_at}
+use Rattle.xt_map.specs.Fetching.{Fetched, Fetches, Fails, SpellsNothing, fetch_at}
 use Rattle.xt_rows.specs.Effects.{illegal_instruction, fetch_error, write_to}
 use Rattle.xt_rows.specs.Outcomes.{outcome_at}
 use Rattle.xt_rows.specs.Settling.{Settled, after_flow, after_outcome, settled_exception}

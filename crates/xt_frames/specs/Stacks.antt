@@ -9,7 +9,7 @@ use Rattle.xt_isa.specs.declared.Insn.{Insn}
 use Rattle.xt_isa.specs.Ranges.{in_range}
 use Rattle.xt_special.specs.Interrupts.{pending_of}
 use Rattle.xt_trace.specs.declared.record.StepRecord.{StepRecord}
-use Rattle.xt_fetch.specs.Fetching.{Fetches, fetch_at}
+use Rattle.xt_map.specs.Fetching.{Fetches, fetch_at}
 use Rattle.xt_rows.specs.Numbers.{minus}
 use Rattle.xt_frames.specs.FrameStep.{step_with_inputs}
 use Rattle.xt_frames.specs.Frames.{Frame, FrameState, value_or_zero, seen_after_call}

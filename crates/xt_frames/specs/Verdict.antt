@@ -1,5 +1,9 @@
 -- The verdict on a run ('profile'): its records, walked in the order of its schedule, by the frame
 -- states alone; and what it is that judged records are a run of the machine with unbounded frames.
+--
+-- Note: the walk serves proofs and need not be read. `IsFirstBreach` (`FirstBreach`) says over whole
+-- lists what the first breach of a run is, and the law `verdict_is_first_breach` says that the walk
+-- ends at that breach, and which records and accesses it has judged by then.
 use Rattle.std.specs.Prelude.{◌≡◌, ℕ, zero, suc, Bool, true, false, if◌then◌else◌, Option, Some}
 use Rattle.std.specs.Prelude.{None, List, [], ◌∷◌, ◌++◌}
 use Rattle.xt_map.specs.declared.access.Access.{Access}

@@ -29,7 +29,6 @@ use xt_trace::{Options, Stack as Range, StepRecord};
 /// one.
 ///
 /// Its stack pointers lie in a chain, so that the frames that can stand on its stack are few, and there is room for all of them.
-#[derive(Drop)]
 pub struct Frames {
     pub(crate) core: u8,
     pub(crate) limits: Limits,
@@ -41,6 +40,21 @@ pub struct Frames {
     pub(crate) fresh: bool,
     // The number of the record after the last judged one.
     pub(crate) next: u64,
+}
+
+// A `drop` of its own is one call at each place where a value is dropped.
+impl Drop for Frames {
+    fn drop(self) {
+        let Frames {
+            core: _,
+            limits: _,
+            view: _,
+            holes: _,
+            callers: _,
+            fresh: _,
+            next: _,
+        } = self;
+    }
 }
 
 impl Model for Frames {

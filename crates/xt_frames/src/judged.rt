@@ -5,7 +5,7 @@ ghost use Rattle.std.specs.Prelude.{◌≡◌, ℕ, Bool, false, IfOk, IfSome, L
 ghost use Rattle.xt_map.specs.Memory.{constant_byte};
 ghost use Rattle.xt_special.specs.Control.{Control};
 ghost use Rattle.xt_special.specs.Shape.{IsPs};
-ghost use Rattle.xt_fetch.specs.Fetching.{fetch_at};
+ghost use Rattle.xt_map.specs.Fetching.{fetch_at};
 ghost use Rattle.xt_frames.specs.Frames.{Frame};
 ghost use Rattle.xt_frames.specs.Nesting.{unset_after};
 ghost use Rattle.xt_frames.specs.Stacks.{Stack};

@@ -10,7 +10,7 @@ ghost use Rattle.xt_special.specs.Shape.{IsPs};
 ghost use Rattle.xt_rows.specs.RowLaws.{IsAny, IsProperWrite};
 ghost use Rattle.xt_frames.specs.declared.holes.UndefinedParts.{UndefinedParts};
 ghost use Rattle.xt_frames.specs.Marks.{mark_read, unset_written};
-ghost use Rattle.xt_fetch.specs.Fetching.{Fetched};
+ghost use Rattle.xt_map.specs.Fetching.{Fetched};
 ghost use Rattle.xt_codec.specs.Fetches.{IsFetched, IsGoodFetch};
 ghost use Rattle.xt_frames.specs.Nesting.{nested_entry, with_kept_frame, nested_after, nested_fetched};
 ghost use Rattle.xt_frames.specs.Stacks.{Stack};

@@ -10,7 +10,7 @@ ghost use Rattle.xt_special.specs.Timers.{after_tick};
 ghost use Rattle.xt_rows.specs.Effects.{puts, no_change};
 ghost use Rattle.xt_rows.specs.RowLaws.{IsAny, IsProper, IsProperEffect, IsProperStep, IsProperWrite, IsRegister, IsShiftAmount};
 ghost use Rattle.xt_rows.specs.Operands.{special_reads};
-ghost use Rattle.xt_fetch.specs.Fetching.{Fetched};
+ghost use Rattle.xt_map.specs.Fetching.{Fetched};
 ghost use Rattle.xt_codec.specs.Fetches.{IsFetched, IsGoodFetch};
 ghost use Rattle.xt_rows.specs.Outcomes.{outcome_at, value_of};
 ghost use Rattle.xt_rows.specs.Settling.{after_effect, after_flow, after_outcome, settled_interrupt, settled_wait};

@@ -1,7 +1,7 @@
 -- The bytes of a vector.
 use Rattle.std.proofs.Common.{◌≡◌, ℕ, zero, suc, ◌+◌, ◌<◌, ◌≤◌, refl, sym, ◌∙◌, ap, arith, List, length, get_or, drop}
 use Rattle.xt_isa.specs.Spelling.{length_of}
-use Rattle.xt_fetch.specs.Code.{code_bytes}
+use Rattle.xt_map.specs.Code.{code_bytes}
 use Rattle.xt_handlers.specs.Symbols.{Effect, effect_after_step}
 use Rattle.xt_handlers.specs.Handling.{answer_at, walk}
 use Rattle.xt_handlers.specs.Spelled.{step_of, lines_in}

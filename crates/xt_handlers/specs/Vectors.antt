@@ -3,8 +3,8 @@
 --
 -- Note: the offsets are those of the ESP32's configuration.
 use Rattle.std.specs.Prelude.{◌≡◌, ℕ, ◌+◌, ◌-◌, ◌*◌, ◌<◌, if◌then◌else◌, List}
-use Rattle.xt_fetch.specs.Fetching.{can_fetch}
-use Rattle.xt_fetch.specs.Code.{code_bytes}
+use Rattle.xt_map.specs.Fetching.{can_fetch}
+use Rattle.xt_map.specs.Code.{code_bytes}
 use Rattle.xt_handlers.specs.declared.stretch.Side.{Side}
 use Rattle.xt_handlers.specs.declared.stretch.Side.TheVariants.{Overflow, Underflow}
 use Rattle.xt_handlers.specs.declared.stretch.HandlerVerdict.{HandlerVerdict}

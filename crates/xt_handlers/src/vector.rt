@@ -12,8 +12,7 @@ ghost use Rattle.xt_handlers.specs.Vectors.{vector_at, vector_bytes, verdict_of}
 
 use crate::spelled::step_of;
 use crate::{Evaluation, HandlerInsn, HandlerVerdict, Handlers, Side};
-use xt_fetch::{code_byte, length_of};
-use xt_map::{Constants, can_execute_at};
+use xt_map::{Constants, can_execute_at, code_byte, length_of};
 
 /// A byte of the vector at an address, or 0 beyond it.
 fn byte_at(code: &Constants, at: u32, i: usize) -> u8

@@ -11,7 +11,7 @@ use Rattle.xt_trace.specs.declared.record.StepRecord.{StepRecord}
 use Rattle.xt_trace.specs.Traces.{has_stopped}
 use Rattle.xt_trace.specs.Walks.{next_record}
 use Rattle.xt_trace.specs.Worlds.{Core, World, answer, give}
-use Rattle.xt_fetch.specs.Code.{AreBytes}
+use Rattle.xt_map.specs.Code.{AreBytes}
 use Rattle.xt_exec.specs.Chips.{processor}
 use Rattle.xt_exec.specs.State.{State}
 use Rattle.xt_exec.specs.Turn.{demand, reply_where, turn, write_with_reply}

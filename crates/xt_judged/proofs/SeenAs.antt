@@ -1,18 +1,18 @@
 -- What the frames answer of a record is what the definition sees in it.
-use Rattle.std.proofs.Common.{◌≡◌, ℕ, Bool, true, false, cond, eqb, ◌&&◌, Option, Some, None, Result, Ok, Err, length, refl, sym, ap, ◌∙◌, subst}
+use Rattle.std.proofs.Common.{◌≡◌, ℕ, Bool, true, false, eqb, ◌&&◌, Option, Some, None, Result, Ok, Err, length, refl, sym, ap, ◌∙◌, subst}
 use Rattle.std.specs.Prelude.{IfOk}
 use Rattle.xt_trace.specs.declared.record.StepRecord.{StepRecord}
 use Rattle.xt_frames.specs.declared.kinds.Breach.{Breach}
 use Rattle.xt_frames.specs.declared.kinds.BreachKind.{BreachKind}
 use Rattle.xt_frames.specs.declared.kinds.HandlerPhase.{HandlerPhase}
-use Rattle.xt_frames.specs.declared.kinds.HandlerPhase.TheVariants.{InHandler, Nested, Outside}
-use Rattle.xt_frames.specs.Breaches.{breach_of, inputs_of, stale_after, window_breach}
-use Rattle.xt_frames.specs.FrameStep.{with_inputs}
-use Rattle.xt_frames.specs.HandlerSteps.{closes, is_window, phase_after}
-use Rattle.xt_frames.specs.Judging.{Seen, fresh_on, handled_record, seen_judged, seen_step, seen_window, step_on}
-use Rattle.xt_frames.specs.Nesting.{current, is_nesting}
+use Rattle.xt_frames.specs.Breaches.{breach_of, stale_after}
+use Rattle.xt_frames.specs.HandlerSteps.{phase_after}
+use Rattle.xt_frames.specs.Judging.{Seen, fresh_on, seen_judged, seen_step, step_on}
 use Rattle.xt_frames.specs.Stacks.{Moves}
 use Rattle.xt_frames.specs.Walked.{IsJudged, Walked, found_in, fresh_before}
+use Rattle.xt_discipline.specs.declared.roles.Role.{Role}
+use Rattle.xt_discipline.specs.Phases.{role_of}
+use Rattle.xt_discipline.proofs.ByRole as roles
 use Rattle.xt_judged.specs.declared.seeing.Passed.{Passed}
 use Rattle.xt_judged.specs.Lives.{is_live_in, others_live}
 use Rattle.xt_judged.specs.Seen.{IsSeenAs, seen_by, standing_at}
@@ -75,55 +75,9 @@ module _ (code : ℕ → ℕ) (old new : Walked) (other : Option Walked) (stale 
         → IsSeenAs old new other stale rec (seen_judged code old.bounds (standing_at old p) others stale nested rec) (passed next r)
     seen_as r h m = subst (λ (k : Option BreachKind). IsSeenAs old new other stale rec (seen k) (passed next r)) same (by_answer r h m)
 
-  -- ---- by the phase before the record
-
-  pub in_window : (r : Result Passed Breach) → is_window rec.kind ≡ true
-      → IsSeenAs old new other stale rec (seen_window (window_breach code rec.kind (with_inputs (inputs_of rec) (current old.state))) old.state) r
-      → IsSeenAs old new other stale rec (seen_by code old Outside other stale rec) r
-  in_window r e h =
-      subst (λ (b : Bool). IsSeenAs old new other stale rec
-      (cond b (seen_window (window_breach code rec.kind (with_inputs (inputs_of rec) (current old.state))) old.state) (seen_judged code old.bounds (standing_at old Outside) others stale false rec)) r)
-      (sym e) h
-
-  pub outside : (r : Result Passed Breach) → is_window rec.kind ≡ false
-      → IsSeenAs old new other stale rec (seen_judged code old.bounds (standing_at old Outside) others stale false rec) r
-      → IsSeenAs old new other stale rec (seen_by code old Outside other stale rec) r
-  outside r e h =
-      subst (λ (b : Bool). IsSeenAs old new other stale rec
-      (cond b (seen_window (window_breach code rec.kind (with_inputs (inputs_of rec) (current old.state))) old.state) (seen_judged code old.bounds (standing_at old Outside) others stale false rec)) r)
-      (sym e) h
-
-  pub stays_outside : is_window rec.kind ≡ false → Outside ≡ phase_after code Outside rec
-  stays_outside e = sym (ap (λ (b : Bool). let q : HandlerPhase = cond b InHandler Outside in q) e)
-
-  pub nesting : (r : Result Passed Breach) → is_nesting rec.kind ≡ true
-      → IsSeenAs old new other stale rec (seen_judged code old.bounds (standing_at old InHandler) others stale true rec) r
-      → IsSeenAs old new other stale rec (seen_by code old InHandler other stale rec) r
-  nesting r e h =
-      subst (λ (b : Bool). IsSeenAs old new other stale rec
-      (cond b (seen_judged code old.bounds (standing_at old InHandler) others stale true rec) (handled_record code (standing_at old InHandler) rec)) r)
-      (sym e) h
-
-  pub nests : is_nesting rec.kind ≡ true → Nested ≡ phase_after code InHandler rec
-  nests e = sym (ap (λ (b : Bool). let q : HandlerPhase = cond b Nested (cond (closes code rec.kind rec.pc) Outside InHandler) in q) e)
-
-  pub handled : (next : HandlerPhase) → new ≡ old → is_nesting rec.kind ≡ false → next ≡ cond (closes code rec.kind rec.pc) Outside InHandler
-      → IsSeenAs old new other stale rec (seen_by code old InHandler other stale rec) (Ok (record { phase = next; judged = false }))
-  handled next same e h =
-      let after : HandlerPhase = cond (closes code rec.kind rec.pc) Outside InHandler in
-      let phase : phase_after code InHandler rec ≡ after = ap (λ (b : Bool). let q : HandlerPhase = cond b Nested after in q) e in
-      let next_is : phase_after code InHandler rec ≡ next = phase ∙ sym h in
-      subst (λ (b : Bool). IsSeenAs old new other stale rec
-      (cond b (seen_judged code old.bounds (standing_at old InHandler) others stale true rec) (handled_record code (standing_at old InHandler) rec)) (Ok (record { phase = next; judged = false })))
-      (sym e) (refl, same, (λ i. record { frame = old.state; fresh = false; phase = next_is i }))
-
--- the record of a window exception
-pub tested : (own : Walked) (other : Option Walked) (stale : ℕ → Bool) (rec : StepRecord) (k : Option BreachKind) → k ≡ None
-    → IsSeenAs own own other stale rec (seen_window k own.state) (Ok (record { phase = InHandler; judged = false }))
-tested own other stale rec k e =
-    subst (λ (x : Option BreachKind). IsSeenAs own own other stale rec (seen_window x own.state) (Ok (record { phase = InHandler; judged = false }))) (sym e) (refl, refl, refl)
-
-pub tested_breach : (own : Walked) (other : Option Walked) (stale : ℕ → Bool) (rec : StepRecord) (k : Option BreachKind) (b : Breach) → k ≡ Some b.kind
-    → IsSeenAs own own other stale rec (seen_window k own.state) (Err b)
-tested_breach own other stale rec k b e =
-    subst (λ (x : Option BreachKind). IsSeenAs own own other stale rec (seen_window x own.state) (Err b)) (sym e) refl
+  -- by what the record is
+  pub by_role : (p : HandlerPhase) (role : Role) (r : Result Passed Breach) → role ≡ role_of p rec.kind
+      → IsSeenAs old new other stale rec (roles.seen_as code old.bounds (standing_at old p) others stale rec role) r
+      → IsSeenAs old new other stale rec (seen_by code old p other stale rec) r
+  by_role p role r e h =
+      subst (λ (s : Seen). IsSeenAs old new other stale rec s r) (sym (roles.seen_is code old.bounds (standing_at old p) others stale rec role e)) h

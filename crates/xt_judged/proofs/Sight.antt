@@ -10,8 +10,8 @@ use Rattle.xt_special.specs.Access.{without_bits}
 use Rattle.xt_trace.specs.declared.record.StepKind.{StepKind}
 use Rattle.xt_trace.specs.declared.record.StepKind.TheVariants as kind
 use Rattle.xt_trace.specs.declared.record.StepRecord.{StepRecord}
-use Rattle.xt_fetch.specs.Code.{AreBytes}
-use Rattle.xt_fetch.specs.Fetching.{Fetched, Fetches, Fails, SpellsNothing, fetch_at}
+use Rattle.xt_map.specs.Code.{AreBytes}
+use Rattle.xt_map.specs.Fetching.{Fetched, Fetches, Fails, SpellsNothing, fetch_at}
 use Rattle.xt_frames.specs.declared.holes.Nested as holes
 use Rattle.xt_frames.specs.declared.kinds.BreachKind.{BreachKind}
 use Rattle.xt_frames.specs.declared.kinds.BreachKind.TheVariants as breach

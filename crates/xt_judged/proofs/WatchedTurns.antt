@@ -5,7 +5,7 @@ use Rattle.std.proofs.lemmas.Bool.{and_from, and_parts, not-false, not-true, or_
 use Rattle.xt_map.specs.declared.access.Access.{Access}
 use Rattle.xt_map.specs.declared.contents.MemoryContents.{MemoryContents}
 use Rattle.xt_map.specs.Memory.{HasSizes}
-use Rattle.xt_changes.proofs.Commuting.{replies_stay}
+use Rattle.xt_search.proofs.Commuting.{replies_stay}
 use Rattle.xt_trace.specs.declared.record.StepRecord.{StepRecord}
 use Rattle.xt_trace.specs.Worlds.{answer, memory_left}
 use Rattle.xt_exec.specs.Chips.{processor}

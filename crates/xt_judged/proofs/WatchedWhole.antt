@@ -5,7 +5,7 @@ use Rattle.xt_map.specs.Memory.{HasSizes, constant_byte}
 use Rattle.xt_image.specs.declared.image.Image.{Image}
 use Rattle.xt_trace.specs.declared.options.Options.{Options}
 use Rattle.xt_trace.specs.Validity.{IsValid}
-use Rattle.xt_fetch.specs.Code.{AreBytes}
+use Rattle.xt_map.specs.Code.{AreBytes}
 use Rattle.xt_exec.specs.Chips.{processor}
 use Rattle.xt_core.specs.Runs.{code_of, memory_of}
 use Rattle.xt_frames.specs.Breaches.{Bounds}

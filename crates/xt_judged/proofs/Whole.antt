@@ -13,7 +13,7 @@ use Rattle.xt_trace.specs.Short.{short_run, short_trace}
 use Rattle.xt_trace.specs.Traces.{Traced}
 use Rattle.xt_trace.proofs.Short.{HasPlaces, run_has_places}
 use Rattle.xt_trace.proofs.Walks.{own_walk}
-use Rattle.xt_fetch.specs.Code.{AreBytes}
+use Rattle.xt_map.specs.Code.{AreBytes}
 use Rattle.xt_exec.specs.Chips.{processor}
 use Rattle.xt_exec.specs.State.{State}
 use Rattle.xt_frames.specs.Breaches.{Bounds}

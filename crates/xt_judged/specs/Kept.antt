@@ -5,7 +5,7 @@ use Rattle.std.specs.Prelude.{None, List, is_some, option_map, slice_get}
 use Rattle.xt_map.specs.declared.contents.MemoryContents.{MemoryContents}
 use Rattle.xt_image.specs.declared.image.Image.{Image}
 use Rattle.xt_trace.specs.declared.options.Options.{Options}
-use Rattle.xt_changes.specs.Changed.{ChangesState, contents_of}
+use Rattle.xt_search.specs.Changed.{ChangesState, contents_of}
 use Rattle.xt_exec.specs.Chips.{processor}
 use Rattle.xt_exec.specs.State.{State}
 use Rattle.xt_core.specs.Runs.{memory_of}

@@ -2,7 +2,7 @@
 use Rattle.std.specs.Prelude.{◌≡◌, ℕ, ◌<◌, Bool, true, false, None, List}
 use Rattle.xt_image.specs.declared.image.Image.{Image}
 use Rattle.xt_trace.specs.declared.options.Options.{Options}
-use Rattle.xt_fetch.specs.Code.{AreBytes}
+use Rattle.xt_map.specs.Code.{AreBytes}
 use Rattle.xt_core.specs.Runs.{code_of}
 use Rattle.xt_search.specs.Worlds.{IsOrder}
 use Rattle.xt_discipline.specs.Verdicts.{are_checked}

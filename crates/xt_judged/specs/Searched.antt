@@ -3,7 +3,7 @@
 use Rattle.std.specs.Prelude.{◌≡◌, Bool}
 use Rattle.xt_image.specs.declared.image.Image.{Image}
 use Rattle.xt_trace.specs.declared.options.Options.{Options}
-use Rattle.xt_fetch.specs.Code.{AreBytes}
+use Rattle.xt_map.specs.Code.{AreBytes}
 use Rattle.xt_core.specs.Runs.{code_of, memory_of}
 use Rattle.xt_search.specs.Graphs.{IsGraph, OpensWith}
 use Rattle.xt_judged.specs.declared.joint.JointSearch.{JointSearch}

@@ -3,7 +3,7 @@
 use Rattle.std.specs.Prelude.{ℕ, Bool, ◌==◌, ◌||◌, not, bit_and}
 use Rattle.xt_special.specs.Numbers as number
 use Rattle.xt_special.specs.Control.{special_of}
-use Rattle.xt_fetch.specs.Fetching.{fetch_at}
+use Rattle.xt_map.specs.Fetching.{fetch_at}
 use Rattle.xt_frames.specs.Frames.{FrameState}
 use Rattle.xt_frames.specs.Nesting.{current}
 use Rattle.xt_timeless.specs.Time.{fetches_time, timer_bits}

@@ -5,7 +5,7 @@ use Rattle.xt_map.specs.Memory.{constant_byte}
 use Rattle.xt_image.specs.declared.image.Image.{Image}
 use Rattle.xt_trace.specs.declared.options.Options.{Options}
 use Rattle.xt_trace.specs.Runs.{world_at_start}
-use Rattle.xt_fetch.specs.Code.{AreBytes}
+use Rattle.xt_map.specs.Code.{AreBytes}
 use Rattle.xt_core.specs.Runs.{code_of, memory_of, opening_of}
 use Rattle.xt_discipline.specs.Verdicts.{opened0, opened1}
 use Rattle.xt_search.specs.Graphs.{IsAt, IsGraph, OpensWith}

@@ -15,10 +15,9 @@ use crate::opening::{open_watched, open_world};
 use crate::watched::Watched;
 use crate::watching::Watching;
 use std::alloc::{AllocError, Global};
-use xt_changes::Changes;
 use xt_image::Image;
 use xt_outcomes::{Places, Seen, Timed, World};
-use xt_search::{Graph, has_all, search};
+use xt_search::{Changes, Graph, has_all, search};
 use xt_trace::Options;
 
 // How many turns that meet nothing are made at once.

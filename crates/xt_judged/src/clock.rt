@@ -3,7 +3,7 @@ ghost use Rattle.std.specs.Prelude.{◌≡◌, ◌||◌};
 ghost use Rattle.xt_map.specs.Memory.{constant_byte};
 ghost use Rattle.xt_special.specs.Control.{special_of};
 ghost use Rattle.xt_special.specs.Numbers as numbers;
-ghost use Rattle.xt_fetch.specs.Fetching.{fetch_at};
+ghost use Rattle.xt_map.specs.Fetching.{fetch_at};
 ghost use Rattle.xt_timeless.specs.Time.{fetches_time};
 ghost use Rattle.xt_judged.specs.Timeless.{frame_uses_time};
 

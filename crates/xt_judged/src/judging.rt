@@ -20,10 +20,9 @@ use crate::stale::Stale;
 use crate::watched::{OwnJudge, Watched};
 use std::alloc::{AllocError, Global};
 use std::rc::Rc;
-use xt_changes::Changes;
 use xt_frames::BreachKind;
 use xt_outcomes::{Shared, Shelf, Side, Timed};
-use xt_search::Machine;
+use xt_search::{Changes, Machine};
 use xt_trace::{Options, StepRecord};
 
 /// The machine of an image, whose turns the judge sees.

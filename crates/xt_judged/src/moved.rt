@@ -1,7 +1,7 @@
 //! Scenes past a turn.
 ghost use Rattle.std.specs.Prelude.{◌≡◌, Some, true, IfOk, option_map};
 ghost use Rattle.xt_map.specs.declared.contents.MemoryContents.{MemoryContents};
-ghost use Rattle.xt_changes.specs.Changed.{contents_of};
+ghost use Rattle.xt_search.specs.Changed.{contents_of};
 ghost use Rattle.xt_outcomes.specs.KeptWorlds.{moved_spot, spot_of};
 ghost use Rattle.xt_outcomes.specs.Spots.{side_of};
 ghost use Rattle.xt_judged.specs.Kept.{IsJudgedAs, bounds0, bounds1, other_of, own_of, scene_of, scene_with, told_of};
@@ -11,8 +11,8 @@ use crate::scene::{Scene, Shown, Standing, is_same_breach, is_same_core};
 use crate::stale::Stale;
 use std::alloc::{AllocError, Global};
 use std::rc::Rc;
-use xt_changes::Changes;
 use xt_outcomes::{Side, World};
+use xt_search::Changes;
 
 /// The same world. The only error is that a part of it has too many owners.
 pub(crate) fn same_world(world: &World) -> Result<World, AllocError>

@@ -2,7 +2,7 @@
 ghost use Rattle.std.specs.Prelude.{◌≡◌, None, true, IfOk};
 ghost use Rattle.xt_map.specs.Memory.{constant_byte};
 ghost use Rattle.xt_map.specs.declared.contents.MemoryContents.{MemoryContents};
-ghost use Rattle.xt_changes.specs.Changed.{contents_of};
+ghost use Rattle.xt_search.specs.Changed.{contents_of};
 ghost use Rattle.xt_outcomes.specs.KeptWorlds.{moved_spot, spot_of};
 ghost use Rattle.xt_judged.specs.Lives.{AreApart};
 ghost use Rattle.xt_judged.specs.OwnJudges.{is_over, judge_past, own_in, range_of, with_judge};
@@ -16,9 +16,9 @@ use crate::stale::Stale;
 use crate::watched::{Fate, OwnJudge, Watched, comes_to};
 use std::alloc::{AllocError, Global};
 use std::rc::Rc;
-use xt_changes::Changes;
 use xt_map::Constants;
 use xt_outcomes::{Part, Side};
+use xt_search::Changes;
 use xt_trace::{Stack, StepRecord};
 
 impl OwnJudge {

@@ -1,11 +1,10 @@
 //! What the judge sees in one record of a core.
-ghost use Rattle.std.specs.Prelude.{◌≡◌, IfOk, if◌then◌else◌, option_copied};
+ghost use Rattle.std.specs.Prelude.{◌≡◌, IfOk, option_copied};
 ghost use Rattle.xt_map.specs.Memory.{constant_byte};
 ghost use Rattle.xt_frames.specs.declared.kinds.HandlerPhase.{HandlerPhase};
-ghost use Rattle.xt_frames.specs.declared.kinds.HandlerPhase.TheVariants.{InHandler, Nested, Outside};
 ghost use Rattle.xt_frames.specs.Breaches.{inputs_of, window_breach};
 ghost use Rattle.xt_frames.specs.FrameStep.{with_inputs};
-ghost use Rattle.xt_frames.specs.HandlerSteps.{closes, phase_after};
+ghost use Rattle.xt_frames.specs.HandlerSteps.{phase_after};
 ghost use Rattle.xt_frames.specs.Judging.{seen_judged, seen_window};
 ghost use Rattle.xt_frames.specs.Nesting.{current};
 ghost use Rattle.xt_frames.specs.Stacks.{Moves};
@@ -16,8 +15,8 @@ ghost use Rattle.xt_judged.specs.Stales.{among};
 
 use crate::bytes::{loads, saves};
 use crate::stale::Stale;
-use xt_discipline::{closes, is_window, returns};
-use xt_frames::{Breach, Frames, HandlerPhase, is_nesting};
+use xt_discipline::{Role, phase_after, role_of};
+use xt_frames::{Breach, Frames, HandlerPhase};
 use xt_map::Constants;
 use xt_trace::StepRecord;
 
@@ -85,28 +84,6 @@ fn see_window(
     })
 }
 
-// The phase after a handler step.
-fn after_handler(code: &Constants, rec: &StepRecord) -> HandlerPhase
-    ensures { result ≡ (if closes (constant_byte code.now) rec.now.kind rec.now.pc then Outside else InHandler) }
-{
-    if closes(code, rec) {
-        HandlerPhase::Outside
-    } else {
-        HandlerPhase::InHandler
-    }
-}
-
-// The phase after a record in a nested interrupt.
-fn after_nested(code: &Constants, rec: &StepRecord) -> HandlerPhase
-    ensures { result ≡ phase_after (constant_byte code.now) Nested rec.now }
-{
-    if returns(code, rec) {
-        HandlerPhase::InHandler
-    } else {
-        HandlerPhase::Nested
-    }
-}
-
 /// Sees the next record of a core, in this phase: a breach, or what it was. It looks at the save areas of the
 /// other core too, if that is given.
 pub fn see(
@@ -120,25 +97,14 @@ pub fn see(
     requires { own.old.next ≡ 0 }
     ensures { IsSeenAs own.old own.new (option_copied other.entry) (among stale.now) rec.now (seen_by (constant_byte code.now) own.old phase (option_copied other.entry) (among stale.now) rec.now) result }
 {
-    match phase {
-        HandlerPhase::Outside => {
-            if is_window(rec.kind) {
-                return see_window(code, own, other, stale, rec);
-            }
-            see_judged(code, own, other, stale, rec, false, phase)
-        }
-        HandlerPhase::InHandler => {
-            if is_nesting(rec.kind) {
-                return see_judged(code, own, other, stale, rec, true, HandlerPhase::Nested);
-            }
-            Ok(Passed {
-                phase: after_handler(code, rec),
-                judged: false,
-            })
-        }
-        HandlerPhase::Nested => {
-            let next = after_nested(code, rec);
-            see_judged(code, own, other, stale, rec, true, next)
-        }
+    let next = phase_after(code, phase, rec);
+    match role_of(phase, rec.kind) {
+        Role::Own => see_judged(code, own, other, stale, rec, false, next),
+        Role::NestedStep => see_judged(code, own, other, stale, rec, true, next),
+        Role::Entry => see_window(code, own, other, stale, rec),
+        Role::HandlerStep => Ok(Passed {
+            phase: next,
+            judged: false,
+        }),
     }
 }

@@ -63,8 +63,8 @@ impl<'a> Machine<'a> {
         let segments = image.segments.as_slice();
         let code0 = Constants::make(alloc, segments)?;
         let code1 = Constants::make(alloc, segments)?;
-        let core0 = Core::make(alloc, 0, image.entry, options, ThreadFile::opening())?;
-        let core1 = Core::make(alloc, 1, options.entry1, options, ThreadFile::opening())?;
+        let core0 = Core::make(alloc, 0, image.entry, options, ThreadFile::new())?;
+        let core1 = Core::make(alloc, 1, options.entry1, options, ThreadFile::new())?;
         let bus = opening_bus(alloc, image, options)?;
         let (turns0, turns1) = (options.turns0, options.turns1);
         match SharedBus::make(rt, alloc, bus, turns0, turns1) {

@@ -6,3 +6,4 @@ pub mod Sent
 pub mod Stored
 pub mod Alike
 pub mod Small
+pub mod Fetches

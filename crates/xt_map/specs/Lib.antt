@@ -6,3 +6,6 @@ pub mod Serving
 pub mod History
 pub mod MemoryLaws
 pub mod Touching
+pub mod Code
+pub mod Fetching
+pub mod FetchLaws

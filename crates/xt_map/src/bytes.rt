@@ -3,9 +3,15 @@ ghost use Rattle.std.specs.Prelude.{◌≡◌, ◌==◌, length};
 use std::marker::Model;
 
 /// A list of bytes. Contracts see the list.
-#[derive(Drop)]
 pub struct Bytes {
     items: Vec<u8>,
+}
+
+// A `drop` of its own is one call at each place where a value is dropped.
+impl Drop for Bytes {
+    fn drop(self) {
+        let Bytes { items: _ } = self;
+    }
 }
 
 impl Model for Bytes {
@@ -55,9 +61,14 @@ impl Bytes {
 }
 
 /// A text that is printed, as a list of bytes. Contracts see the list.
-#[derive(Drop)]
 pub struct Text {
     items: Vec<u8>,
+}
+
+impl Drop for Text {
+    fn drop(self) {
+        let Text { items: _ } = self;
+    }
 }
 
 impl Model for Text {
@@ -81,20 +92,6 @@ impl Text {
         ensures { result.now ≡ self.now }
     {
         &self.items
-    }
-
-    /// How many bytes there are.
-    pub fn len(&self) -> usize
-        ensures { result ≡ length self.now }
-    {
-        self.items.len()
-    }
-
-    /// Whether there is no byte.
-    pub fn is_empty(&self) -> bool
-        ensures { result ≡ (length self.now == 0) }
-    {
-        self.items.is_empty()
     }
 
     /// The bytes as a `Vec`, without a copy.

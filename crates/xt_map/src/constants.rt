@@ -38,11 +38,20 @@ impl Model for Index {
 /// loaded. It borrows the segments that it is made of, and contracts see those.
 ///
 /// A byte is found by a binary search over the segments in the order of their addresses.
-#[derive(Drop)]
 pub struct Constants<'a> {
     segments: &'a [Segment],
     // The starts of the segments that have bytes, in the order of the addresses.
     starts: Vec<Start>,
+}
+
+// A `drop` of its own is one call at each place where a value is dropped.
+impl Drop for Constants<'_> {
+    fn drop(self) {
+        let Constants {
+            segments: _,
+            starts: _,
+        } = self;
+    }
 }
 
 impl<'a> Model for Constants<'a> {

@@ -6,8 +6,11 @@
 
 mod access;
 mod bytes;
+mod code;
 mod constants;
 mod contents;
+mod fetch;
+pub mod fetch_laws;
 mod history;
 mod laws;
 mod lookup;
@@ -19,8 +22,10 @@ mod segment;
 
 pub use access::{Access, Entry, Kind};
 pub use bytes::{Bytes, Text};
+pub use code::{code_byte, code_number, code_three};
 pub use constants::{Constants, Index};
 pub use contents::MemoryContents;
+pub use fetch::{fetched_length, is_inside, length_of, unfetchable};
 pub use history::History;
 pub use laws::{
     access_keeps_sizes, access_sends_at_most_one_byte, byte_of_other_address, byte_put_keeps_sizes,

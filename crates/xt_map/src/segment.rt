@@ -6,7 +6,6 @@ use std::marker::Model;
 /// Bytes of an image and the address of the first.
 ///
 /// A segment below the address 0x10000000 is padding and is not loaded.
-#[derive(Drop)]
 pub struct Segment {
     /// The address of the first byte.
     pub addr: u32,
@@ -14,10 +13,22 @@ pub struct Segment {
     pub bytes: Bytes,
 }
 
+// A `drop` of its own is one call at each place where a value is dropped.
+impl Drop for Segment {
+    fn drop(self) {
+        let Segment { addr: _, bytes: _ } = self;
+    }
+}
+
 /// A list of segments, in file order. Contracts see the list.
-#[derive(Drop)]
 pub struct Segments {
     items: Vec<Segment>,
+}
+
+impl Drop for Segments {
+    fn drop(self) {
+        let Segments { items: _ } = self;
+    }
 }
 
 impl Model for Segments {

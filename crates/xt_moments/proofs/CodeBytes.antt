@@ -11,7 +11,7 @@ use Rattle.xt_map.specs.Regions.{is_constant, region_of}
 use Rattle.xt_map.proofs.Stored.{opening_has_sizes}
 use Rattle.xt_trace.specs.declared.options.Options.{Options}
 use Rattle.xt_core.specs.Runs.{memory_of, stack_words}
-use Rattle.xt_fetch.specs.Code.{AreBytes}
+use Rattle.xt_map.specs.Code.{AreBytes}
 use Rattle.xt_image.specs.declared.image.Image.{Image}
 use Rattle.xt_image.specs.ImageParts.{FitsImage, FitsSegment}
 

@@ -2,7 +2,7 @@
 use Rattle.std.proofs.Common.{◌≡◌, ◌∙◌, ap, sym, ℕ, List, []}
 use Rattle.xt_map.specs.declared.contents.MemoryContents.{MemoryContents}
 use Rattle.xt_bus.proofs.Opening.{opening_sends_none}
-use Rattle.xt_changes.specs.Changed.{ChangesState, contents_of}
+use Rattle.xt_search.specs.Changed.{ChangesState, contents_of}
 use Rattle.xt_image.specs.declared.image.Image.{Image}
 use Rattle.xt_trace.specs.declared.options.Options.{Options}
 use Rattle.xt_core.specs.Runs.{memory_of, opening_at, opening_of, stack_words}

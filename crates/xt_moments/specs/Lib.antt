@@ -1,3 +1,5 @@
 pub mod Moments
 pub mod Outcomes
 pub mod Made
+pub mod MomentLaws
+pub mod WorldLaws

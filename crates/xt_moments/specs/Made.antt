@@ -1,7 +1,7 @@
 -- Carries a proof; nothing that a reader must believe.
 -- A world between two moves, as bytes of memory that changed.
 use Rattle.xt_map.specs.declared.contents.MemoryContents.{MemoryContents}
-use Rattle.xt_changes.specs.Changed.{contents_of}
+use Rattle.xt_search.specs.Changed.{contents_of}
 use Rattle.xt_moments.specs.Moments.{MomentWorld}
 use Rattle.xt_moments.specs.declared.worlds.Actors.{Actors}
 

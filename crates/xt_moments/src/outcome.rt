@@ -4,11 +4,11 @@ ghost use Rattle.std.specs.List.{All};
 ghost use Rattle.xt_map.specs.Memory.{HasSizes, constant_byte};
 ghost use Rattle.xt_map.specs.Placing.{IsPlaced};
 ghost use Rattle.xt_map.specs.Serving.{number_at};
-ghost use Rattle.xt_fetch.specs.Code.{AreBytes};
+ghost use Rattle.xt_map.specs.Code.{AreBytes};
 ghost use Rattle.xt_trace.specs.Validity.{IsValid};
 ghost use Rattle.xt_image.specs.ImageParts.{FitsImage};
 ghost use Rattle.xt_core.specs.Runs.{code_of, opening_of};
-ghost use Rattle.xt_changes.specs.Changed.{contents_of};
+ghost use Rattle.xt_search.specs.Changed.{contents_of};
 ghost use Rattle.xt_moments.specs.Made.{world_of};
 ghost use Rattle.xt_moments.specs.Moments.{IsMove, world_past};
 ghost use Rattle.xt_moments.specs.Outcomes.{EndsIn, have_stopped, outcome_in, world_after};
@@ -18,10 +18,10 @@ use crate::worlds::Actors;
 use std::alloc::{AllocError, Global};
 use std::marker::Model;
 use xt_bus::Memory;
-use xt_changes::Changes;
 use xt_core::stack_links;
 use xt_image::Image;
 use xt_map::Constants;
+use xt_search::Changes;
 use xt_trace::Options;
 
 /// What was sent, where both cores stopped, and the values of the chosen words. Contracts see

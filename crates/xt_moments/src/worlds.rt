@@ -2,7 +2,7 @@
 ghost use Rattle.std.specs.Prelude.{◌≡◌, ◌<◌, IfOk};
 ghost use Rattle.xt_map.specs.declared.contents.MemoryContents.{MemoryContents};
 ghost use Rattle.xt_map.specs.Memory.{HasSizes, constant_byte};
-ghost use Rattle.xt_fetch.specs.Code.{AreBytes};
+ghost use Rattle.xt_map.specs.Code.{AreBytes};
 ghost use Rattle.xt_trace.specs.Validity.{IsValid};
 ghost use Rattle.xt_core.specs.Runs.{memory_of, opening_of};
 ghost use Rattle.xt_moments.specs.Made.{world_of};
@@ -13,9 +13,9 @@ use crate::actors::Actor;
 use crate::moves::Move;
 use std::alloc::{AllocError, Global};
 use xt_bus::Memory;
-use xt_changes::Changes;
 use xt_image::Image;
 use xt_map::Constants;
+use xt_search::Changes;
 use xt_trace::Options;
 
 /// Two cores between two moves, and what memory holds.

@@ -3,3 +3,16 @@ pub mod InRange
 pub mod Searched
 pub mod Specials
 pub mod Walked
+pub mod Encoding
+pub mod EncodingBoolean
+pub mod EncodingBytes
+pub mod EncodingControl
+pub mod EncodingDensity
+pub mod EncodingFormats
+pub mod EncodingMemory
+pub mod EncodingParts
+pub mod EncodingShift
+pub mod EncodingSystem
+pub mod EncodingThree
+pub mod EncodingWords
+pub mod WordLengths

@@ -5,3 +5,8 @@ pub mod Names
 pub mod InsnParts
 pub mod Search
 pub mod Specials
+pub mod InsnBytes
+pub mod Encodings
+pub mod Lengths
+pub mod Making
+pub mod Operands

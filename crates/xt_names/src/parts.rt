@@ -259,9 +259,10 @@ fn of_one(name: One, s: u8) -> Insn
 }
 
 /// Of two registers.
-fn of_two(name: Two, a: u8, b: u8) -> Insn
-    ensures { result ≡ of_two name a b }
+fn of_two(name: Two, registers: (u8, u8)) -> Insn
+    ensures { result ≡ of_two name registers.0 registers.1 }
 {
+    let (a, b) = registers;
     match name {
         Two::Sign(name) => Insn::Shift(Shift::Sign(name, a, b)),
         Two::ShiftRight(name) => Insn::Shift(Shift::ShiftRight(name, a, b)),
@@ -276,9 +277,10 @@ fn of_two(name: Two, a: u8, b: u8) -> Insn
 }
 
 /// Of three registers.
-fn of_three(name: Three, r: u8, s: u8, t: u8) -> Insn
-    ensures { result ≡ of_three name r s t }
+fn of_three(name: Three, registers: (u8, u8, u8)) -> Insn
+    ensures { result ≡ of_three name registers.0 registers.1 registers.2 }
 {
+    let (r, s, t) = registers;
     match name {
         Three::Bitwise(name) => Insn::Three(three::Three::Bitwise(name, r, s, t)),
         Three::Sum(name) => Insn::Three(three::Three::Sum(name, r, s, t)),
@@ -310,9 +312,10 @@ fn of_number(name: Number, n: i32) -> Insn
 }
 
 /// Of a register and a number.
-fn of_one_and_number(name: OneAndNumber, s: u8, n: i32) -> Insn
-    ensures { result ≡ of_one_and_number name s n }
+fn of_one_and_number(name: OneAndNumber, operands: (u8, i32)) -> Insn
+    ensures { result ≡ of_one_and_number name operands.0 operands.1 }
 {
+    let (s, n) = operands;
     match name {
         OneAndNumber::Movi => Insn::Memory(Memory::Movi(s, n)),
         OneAndNumber::Rsil => Insn::System(System::Level(LevelName::Rsil, s, n)),
@@ -322,9 +325,10 @@ fn of_one_and_number(name: OneAndNumber, s: u8, n: i32) -> Insn
 }
 
 /// Of a register and a special or user register.
-fn of_one_and_special(name: OneAndSpecial, t: u8, n: u8) -> Insn
-    ensures { result ≡ of_one_and_special name t n }
+fn of_one_and_special(name: OneAndSpecial, operands: (u8, u8)) -> Insn
+    ensures { result ≡ of_one_and_special name operands.0 operands.1 }
 {
+    let (t, n) = operands;
     match name {
         OneAndSpecial::Special(name) => Insn::System(System::Special(name, t, n)),
         OneAndSpecial::User(name) => Insn::System(System::User(name, t, n)),
@@ -332,9 +336,10 @@ fn of_one_and_special(name: OneAndSpecial, t: u8, n: u8) -> Insn
 }
 
 /// Of a register and the offset of a target.
-fn of_one_and_target(name: OneAndTarget, s: u8, offset: i32) -> Insn
-    ensures { result ≡ of_one_and_target name s offset }
+fn of_one_and_target(name: OneAndTarget, operands: (u8, i32)) -> Insn
+    ensures { result ≡ of_one_and_target name operands.0 operands.1 }
 {
+    let (s, offset) = operands;
     match name {
         OneAndTarget::BranchZero(name) => Insn::Control(Control::BranchZero(name, s, offset)),
         OneAndTarget::Loop(name) => Insn::Control(Control::Loop(name, s, offset)),
@@ -344,9 +349,10 @@ fn of_one_and_target(name: OneAndTarget, s: u8, offset: i32) -> Insn
 }
 
 /// Of a register, a number and the offset of a target.
-fn of_one_number_and_target(name: OneNumberAndTarget, s: u8, n: i32, offset: i32) -> Insn
-    ensures { result ≡ of_one_number_and_target name s n offset }
+fn of_one_number_and_target(name: OneNumberAndTarget, operands: (u8, i32, i32)) -> Insn
+    ensures { result ≡ of_one_number_and_target name operands.0 operands.1 operands.2 }
 {
+    let (s, n, offset) = operands;
     match name {
         OneNumberAndTarget::BranchConst(name) => Insn::Control(Control::BranchConst(
             name, s, n, offset,
@@ -361,9 +367,10 @@ fn of_one_number_and_target(name: OneNumberAndTarget, s: u8, n: i32, offset: i32
 }
 
 /// Of two registers and a number.
-fn of_two_and_number(name: TwoAndNumber, a: u8, b: u8, n: i32) -> Insn
-    ensures { result ≡ of_two_and_number name a b n }
+fn of_two_and_number(name: TwoAndNumber, operands: (u8, u8, i32)) -> Insn
+    ensures { result ≡ of_two_and_number name operands.0 operands.1 operands.2 }
 {
+    let (a, b, n) = operands;
     match name {
         TwoAndNumber::Slli => Insn::Shift(Shift::Slli(a, b, n)),
         TwoAndNumber::Srai => Insn::Shift(Shift::Srai(a, b, n)),
@@ -382,9 +389,10 @@ fn of_two_and_number(name: TwoAndNumber, a: u8, b: u8, n: i32) -> Insn
 }
 
 /// Of two registers and the offset of a target.
-fn of_two_and_target(name: TwoAndTarget, s: u8, t: u8, offset: i32) -> Insn
-    ensures { result ≡ of_two_and_target name s t offset }
+fn of_two_and_target(name: TwoAndTarget, operands: (u8, u8, i32)) -> Insn
+    ensures { result ≡ of_two_and_target name operands.0 operands.1 operands.2 }
 {
+    let (s, t, offset) = operands;
     match name {
         TwoAndTarget::Branch(name) => Insn::Control(Control::Branch(name, s, t, offset)),
         TwoAndTarget::BranchNot(name) => Insn::Control(Control::BranchNot(name, s, t, offset)),
@@ -399,19 +407,19 @@ pub fn insn_of(parts: Parts) -> Insn
     match parts {
         Parts::Nothing(name) => of_plain(name),
         Parts::One(name, s) => of_one(name, s),
-        Parts::Two(name, (a, b)) => of_two(name, a, b),
-        Parts::Three(name, (r, s, t)) => of_three(name, r, s, t),
+        Parts::Two(name, registers) => of_two(name, registers),
+        Parts::Three(name, registers) => of_three(name, registers),
         Parts::Number(name, n) => of_number(name, n),
         Parts::Break((x, y)) => Insn::System(System::Trap(TrapName::Break, x, y)),
-        Parts::OneAndNumber(name, (s, n)) => of_one_and_number(name, s, n),
-        Parts::TwoAndNumber(name, (a, b, n)) => of_two_and_number(name, a, b, n),
+        Parts::OneAndNumber(name, operands) => of_one_and_number(name, operands),
+        Parts::TwoAndNumber(name, operands) => of_two_and_number(name, operands),
         Parts::Extui((r, t, n, w)) => Insn::Shift(Shift::Extui(r, t, n, w)),
-        Parts::OneAndSpecial(name, (t, n)) => of_one_and_special(name, t, n),
+        Parts::OneAndSpecial(name, operands) => of_one_and_special(name, operands),
         Parts::Jump(d) => Insn::Control(Control::J(d)),
         Parts::Call(name, d) => Insn::Control(Control::Call(name, d)),
         Parts::Literal((t, d)) => Insn::Memory(Memory::L32r(t, d)),
-        Parts::OneAndTarget(name, (s, d)) => of_one_and_target(name, s, d),
-        Parts::OneNumberAndTarget(name, (s, n, d)) => of_one_number_and_target(name, s, n, d),
-        Parts::TwoAndTarget(name, (s, t, d)) => of_two_and_target(name, s, t, d),
+        Parts::OneAndTarget(name, operands) => of_one_and_target(name, operands),
+        Parts::OneNumberAndTarget(name, operands) => of_one_number_and_target(name, operands),
+        Parts::TwoAndTarget(name, operands) => of_two_and_target(name, operands),
     }
 }

@@ -10,8 +10,8 @@ use Rattle.xt_map.specs.Regions.{is_mapped, is_memory, is_size, is_uart, kind_fi
 use Rattle.xt_map.specs.Touching.{is_load}
 use Rattle.xt_map.proofs.Alike.{three_sizes}
 use Rattle.xt_map.proofs.Stored.{access_keeps_sizes}
-use Rattle.xt_changes.specs.Apart.{AreApart}
-use Rattle.xt_changes.proofs.Commuting.{accesses_commute, replies_stay}
+use Rattle.xt_search.specs.Apart.{AreApart}
+use Rattle.xt_search.proofs.Commuting.{accesses_commute, replies_stay}
 use Rattle.xt_trace.specs.Worlds.{answer, memory_left}
 use Rattle.xt_exec.specs.Chips.{processor}
 use Rattle.xt_exec.specs.TurnLaws.{IsServed}

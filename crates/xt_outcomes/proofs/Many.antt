@@ -6,8 +6,8 @@ use Rattle.xt_search.specs.Graphs.{IsAt}
 use Rattle.xt_search.specs.Worlds.{IsOrder, Reaches}
 use Rattle.xt_search.proofs.Endings.{some_at}
 use Rattle.xt_search.proofs.Numbers.{at_kept}
-use Rattle.xt_changes.specs.Changed.{IsLean}
-use Rattle.xt_changes.proofs.Leaning.{lean_same}
+use Rattle.xt_search.specs.Changed.{IsLean}
+use Rattle.xt_search.proofs.Leaning.{lean_same}
 use Rattle.xt_trace.specs.declared.options.Options.{Options}
 use Rattle.xt_exec.specs.State.{State}
 use Rattle.xt_core.specs.Runs.{code_of, memory_of, opening_of}

@@ -3,7 +3,7 @@ use Rattle.std.proofs.Common.{◌≡◌, ℕ, zero, suc, Bool, List, refl, ap, �
 use Rattle.xt_map.specs.declared.contents.MemoryContents.{MemoryContents}
 use Rattle.xt_trace.specs.Chip.{Chip}
 use Rattle.xt_exec.specs.State.{State}
-use Rattle.xt_changes.specs.Changed.{ChangesState, contents_of}
+use Rattle.xt_search.specs.Changed.{ChangesState, contents_of}
 use Rattle.xt_outcomes.specs.KeptWorlds.{moved_spot, spot_of}
 use Rattle.xt_outcomes.specs.Nexts.{side_next, spot_next}
 use Rattle.xt_outcomes.specs.declared.world.World.{World}

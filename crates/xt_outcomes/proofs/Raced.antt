@@ -7,13 +7,13 @@ use Rattle.xt_map.specs.declared.access.Kind.{Kind}
 use Rattle.xt_map.specs.declared.access.Kind.TheVariants.{Load, Store, Cas}
 use Rattle.xt_map.specs.Touching.{is_load}
 use Rattle.xt_map.proofs.Alike.{inside}
-use Rattle.xt_changes.specs.Apart.{AreApart}
+use Rattle.xt_search.specs.Apart.{AreApart}
 use Rattle.xt_trace.specs.Traces.{has_stopped}
 use Rattle.xt_trace.specs.Worlds.{Core, Line, World, answer}
 use Rattle.xt_trace.specs.declared.options.Options.{Options}
 use Rattle.xt_image.specs.declared.image.Image.{Image}
-use Rattle.xt_fetch.specs.Code.{AreBytes}
-use Rattle.xt_fetch.specs.Fetching.{fetch_at}
+use Rattle.xt_map.specs.Code.{AreBytes}
+use Rattle.xt_map.specs.Fetching.{fetch_at}
 use Rattle.xt_exec.specs.Chips.{processor}
 use Rattle.xt_exec.specs.TurnLaws.{IsServed}
 use Rattle.xt_exec.specs.State.{State}

@@ -18,7 +18,7 @@ use Rattle.xt_rows.specs.declared.outcome.Outcome.TheVariants.{Does, Raises, Ask
 use Rattle.xt_rows.specs.declared.outcome.WindowRegister.TheVariants as window
 use Rattle.xt_rows.specs.declared.outcome.WindowStep.{WindowStep}
 use Rattle.xt_rows.specs.declared.outcome.WindowStep.TheVariants.{Enters, Returns, EndsOverflow, EndsUnderflow, Rotates, MovesStack, Reads, Sets, Exchanges}
-use Rattle.xt_fetch.specs.Fetching.{Fetched, Fetches, Fails, SpellsNothing, fetch_at}
+use Rattle.xt_map.specs.Fetching.{Fetched, Fetches, Fails, SpellsNothing, fetch_at}
 use Rattle.xt_rows.specs.Effects.{illegal_instruction, no_caller_window, write_to}
 use Rattle.xt_rows.specs.Operands.{reads}
 use Rattle.xt_rows.specs.Outcomes.{outcome_at, value_of}

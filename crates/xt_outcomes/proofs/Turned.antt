@@ -11,7 +11,7 @@ use Rattle.xt_exec.specs.Turn.{demand, turn}
 use Rattle.xt_exec.specs.TurnLaws.{IsServed, IsShaped}
 use Rattle.xt_exec.proofs.Served.{demand_served}
 use Rattle.xt_exec.proofs.Shapes.{turn_shaped}
-use Rattle.xt_fetch.specs.Code.{AreBytes}
+use Rattle.xt_map.specs.Code.{AreBytes}
 use Rattle.xt_rows.specs.RowLaws.{IsWord}
 use Rattle.xt_window.specs.Ring.{bit, place}
 use Rattle.xt_outcomes.specs.Dead.{cleared, dead_at, forgotten, side_forgotten}

@@ -2,7 +2,7 @@
 -- What stands for a world in a search.
 use Rattle.std.specs.Prelude.{◌≡◌, ℕ, zero, suc, Bool, false, List}
 use Rattle.xt_map.specs.declared.contents.MemoryContents.{MemoryContents}
-use Rattle.xt_changes.specs.Changed.{IsLean, contents_of}
+use Rattle.xt_search.specs.Changed.{IsLean, contents_of}
 use Rattle.xt_exec.specs.State.{State}
 use Rattle.xt_outcomes.specs.Nexts.{next_bars}
 use Rattle.xt_outcomes.specs.Places.{spot_run}

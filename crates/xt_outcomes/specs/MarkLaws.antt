@@ -2,7 +2,7 @@
 -- Worlds that are the same have one number.
 use Rattle.std.proofs.Common.{sym, ◌∙◌}
 use Rattle.std.specs.Prelude.{◌≡◌, ℕ, ◌+◌, ◌*◌, ◌%◌, ◌^◌}
-use Rattle.xt_changes.specs.Changed.{ChangesState, digest_of}
+use Rattle.xt_search.specs.Changed.{ChangesState, digest_of}
 use Rattle.xt_exec.specs.State.{State}
 use Rattle.xt_outcomes.specs.Marks.{IsSameWorld, world_mark}
 use Rattle.xt_outcomes.specs.SideMarks.{side_mark}

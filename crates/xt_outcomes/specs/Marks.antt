@@ -1,7 +1,7 @@
 -- Carries a proof; nothing that a reader must believe.
 -- Numbers that are the same for the same worlds.
 use Rattle.std.specs.Prelude.{◌≡◌, ℕ, ◌+◌, ◌*◌, ◌%◌, ◌^◌}
-use Rattle.xt_changes.specs.Changed.{digest_of}
+use Rattle.xt_search.specs.Changed.{digest_of}
 use Rattle.xt_outcomes.specs.SideMarks.{side_mark}
 use Rattle.xt_outcomes.specs.declared.world.World.{World}
 

@@ -3,13 +3,13 @@
 use Rattle.std.specs.Prelude.{◌≡◌, ℕ, true, List, ◌++◌, IfSome}
 use Rattle.xt_map.specs.Memory.{constant_byte}
 use Rattle.xt_image.specs.declared.image.Image.{Image}
-use Rattle.xt_changes.specs.Changed.{IsLean}
+use Rattle.xt_search.specs.Changed.{IsLean}
 use Rattle.xt_search.specs.Chains.{AreDistinct}
 use Rattle.xt_search.specs.Graphs.{IsAt, IsBarredAt, IsGraph, IsWhole, OpensWith}
 use Rattle.xt_search.specs.Worlds.{IsOrder}
 use Rattle.xt_trace.specs.declared.options.Options.{Options}
 use Rattle.xt_trace.specs.Runs.{world_at_start}
-use Rattle.xt_fetch.specs.Code.{AreBytes}
+use Rattle.xt_map.specs.Code.{AreBytes}
 use Rattle.xt_exec.specs.Chips.{processor}
 use Rattle.xt_exec.specs.State.{State}
 use Rattle.xt_core.specs.Runs.{code_of, memory_of, opening_of}

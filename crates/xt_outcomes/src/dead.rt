@@ -1,7 +1,7 @@
 //! What a search takes for granted of registers: that nobody will read them.
 ghost use Rattle.std.specs.Prelude.{◌≡◌, ◌==◌, ◌&&◌, ◌||◌, not};
 ghost use Rattle.xt_map.specs.Memory.{constant_byte};
-ghost use Rattle.xt_fetch.specs.Fetching.{fetch_at};
+ghost use Rattle.xt_map.specs.Fetching.{fetch_at};
 ghost use Rattle.xt_window.specs.Ring.{bit};
 ghost use Rattle.xt_outcomes.specs.Dead.{are_fit, cleared, dead_at, is_live, is_written, reads_of, stay_dead};
 

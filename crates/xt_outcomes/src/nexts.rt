@@ -11,7 +11,7 @@ ghost use Rattle.xt_image.specs.ImageParts.{FitsImage};
 ghost use Rattle.xt_exec.specs.Chips.{processor};
 ghost use Rattle.xt_exec.specs.Turn.{turn};
 ghost use Rattle.xt_core.specs.Runs.{code_of, memory_of, opening_of};
-ghost use Rattle.xt_changes.specs.Changed.{contents_of};
+ghost use Rattle.xt_search.specs.Changed.{contents_of};
 ghost use Rattle.xt_search.specs.Worlds.{IsOrder};
 ghost use Rattle.xt_outcomes.specs.KeptWorlds.{spot_of};
 ghost use Rattle.xt_outcomes.specs.NextRaces.{IsNextRace, next_access};
@@ -26,9 +26,9 @@ use crate::sides::Side;
 use crate::timed::Timed;
 use crate::world::World;
 use std::alloc::{AllocError, Global};
-use xt_changes::Changes;
 use xt_image::Image;
 use xt_map::Access;
+use xt_search::Changes;
 use xt_trace::{Options, StepRecord};
 
 /// A core's next turn: its number among the turns of the core, from 0, and its record.

@@ -3,7 +3,7 @@ ghost use Rattle.std.specs.Prelude.{◌≡◌, true, IfOk};
 ghost use Rattle.xt_trace.specs.Runs.{world_at_start};
 ghost use Rattle.xt_trace.specs.Validity.{IsValid};
 ghost use Rattle.xt_core.specs.Runs.{memory_of, opening_of};
-ghost use Rattle.xt_changes.specs.Changed.{IsLean};
+ghost use Rattle.xt_search.specs.Changed.{IsLean};
 ghost use Rattle.xt_outcomes.specs.Dead.{spot_forgotten};
 ghost use Rattle.xt_outcomes.specs.KeptWorlds.{spot_of};
 ghost use Rattle.xt_outcomes.specs.Orders.{with_turns};
@@ -14,8 +14,8 @@ use crate::sides::Side;
 use crate::timed::Timed;
 use crate::world::World;
 use std::alloc::{AllocError, Global};
-use xt_changes::Changes;
 use xt_image::Image;
+use xt_search::Changes;
 use xt_trace::Options;
 
 /// The world in which the runs of an image open. The only error is running out of memory.

@@ -4,7 +4,7 @@ ghost use Rattle.std.specs.List.{All};
 ghost use Rattle.std.specs.Ordering.{is_eq, is_lt};
 ghost use Rattle.xt_map.specs.Memory.{HasSizes};
 ghost use Rattle.xt_map.specs.Serving.{number_at};
-ghost use Rattle.xt_changes.specs.Changed.{contents_of};
+ghost use Rattle.xt_search.specs.Changed.{contents_of};
 ghost use Rattle.xt_outcomes.specs.Endings.{outcome_at};
 ghost use Rattle.xt_outcomes.specs.KeptWorlds.{spot_of};
 ghost use Rattle.xt_outcomes.specs.Listing.{outcome_ordering, rank};
@@ -14,7 +14,7 @@ use std::alloc::{AllocError, Global};
 use std::cmp::Ordering;
 use std::marker::Model;
 use xt_bus::Memory;
-use xt_changes::Changes;
+use xt_search::Changes;
 use xt_trace::Stop;
 
 /// How both cores ended, what was sent, and the values of the chosen words. Contracts see these.

@@ -9,7 +9,7 @@ ghost use Rattle.xt_image.specs.ImageParts.{FitsImage};
 ghost use Rattle.xt_exec.specs.Chips.{processor};
 ghost use Rattle.xt_exec.specs.Turn.{demand};
 ghost use Rattle.xt_core.specs.Runs.{code_of, memory_of, opening_of};
-ghost use Rattle.xt_changes.specs.Changed.{contents_of};
+ghost use Rattle.xt_search.specs.Changed.{contents_of};
 ghost use Rattle.xt_search.specs.Worlds.{IsOrder};
 ghost use Rattle.xt_outcomes.specs.KeptWorlds.{spot_of};
 ghost use Rattle.xt_outcomes.specs.Racing.{HasNoRace, IsRaceAfter};
@@ -23,10 +23,10 @@ use crate::timed::Timed;
 use crate::world::World;
 use std::alloc::{AllocError, Global};
 use xt_bus::Memory;
-use xt_changes::Changes;
 use xt_image::Image;
 use xt_map::{Access, Constants, Entry};
 use xt_race::{Event, order_at};
+use xt_search::Changes;
 use xt_trace::{Options, StepKind, StepRecord};
 
 /// An order after which the next turns of both cores make these accesses, which conflict.

@@ -1,9 +1,9 @@
 //! One turn of a core with its record, from a world that is kept.
 ghost use Rattle.std.specs.Prelude.{◌≡◌, ◌<◌, IfOk, OnOk};
 ghost use Rattle.xt_map.specs.Memory.{HasSizes, constant_byte};
-ghost use Rattle.xt_fetch.specs.Code.{AreBytes};
+ghost use Rattle.xt_map.specs.Code.{AreBytes};
 ghost use Rattle.xt_trace.specs.Worlds.{answer, memory_left};
-ghost use Rattle.xt_changes.specs.Changed.{IsLean, contents_of};
+ghost use Rattle.xt_search.specs.Changed.{IsLean, contents_of};
 ghost use Rattle.xt_exec.specs.Chips.{processor};
 ghost use Rattle.xt_exec.specs.Turn.{demand, turn};
 ghost use Rattle.xt_exec.specs.TurnLaws.{IsServed};
@@ -12,8 +12,8 @@ ghost use Rattle.xt_outcomes.specs.Spots.{memory_given, side_given};
 use crate::sides::Side;
 use std::alloc::AllocError;
 use xt_bus::Memory;
-use xt_changes::Changes;
 use xt_map::{Access, Constants};
+use xt_search::Changes;
 use xt_trace::StepRecord;
 
 /// Serves the access of a turn, if it makes one. The only error is running out of memory.

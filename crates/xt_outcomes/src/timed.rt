@@ -3,7 +3,7 @@
 ghost use Rattle.std.specs.Prelude.{◌≡◌, ◌==◌, ◌&&◌, ◌<◌};
 ghost use Rattle.xt_map.specs.declared.contents.MemoryContents.{MemoryContents};
 ghost use Rattle.xt_map.specs.Memory.{HasSizes, constant_byte};
-ghost use Rattle.xt_fetch.specs.Code.{AreBytes};
+ghost use Rattle.xt_map.specs.Code.{AreBytes};
 
 use crate::dead::{Dead, are_fit, reads_at};
 use crate::desk::Desk;
@@ -15,11 +15,10 @@ use crate::turns::Ahead;
 use crate::world::World;
 use std::alloc::{AllocError, Global};
 use xt_bus::Memory;
-use xt_changes::Changes;
 use xt_core::stack_links;
 use xt_image::Image;
 use xt_map::Constants;
-use xt_search::Machine;
+use xt_search::{Changes, Machine};
 use xt_trace::Options;
 use xt_window::Windows;
 
@@ -130,7 +129,7 @@ impl<'a> Timed<'a> {
     ghost use Rattle.std.specs.Prelude.{true, false, not, IfOk, IfSome, IfNone, OnOk};
     ghost use Rattle.xt_exec.specs.Chips.{processor};
     ghost use Rattle.xt_search.specs.Meetings.{after};
-    ghost use Rattle.xt_changes.specs.Changed.{IsLean, contents_of};
+    ghost use Rattle.xt_search.specs.Changed.{IsLean, contents_of};
     ghost use Rattle.xt_outcomes.specs.Ahead.{IsAhead};
     ghost use Rattle.xt_outcomes.specs.Dead.{fits, spot_forgotten};
     ghost use Rattle.xt_outcomes.specs.KeptWorlds.{bars, moved_spot, spot_of};

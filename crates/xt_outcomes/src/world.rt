@@ -1,7 +1,7 @@
 //! What stands for a world in a search.
 ghost use Rattle.std.specs.Prelude.{◌≡◌, true, IfOk};
 ghost use Rattle.xt_map.specs.declared.contents.MemoryContents.{MemoryContents};
-ghost use Rattle.xt_changes.specs.Changed.{contents_of};
+ghost use Rattle.xt_search.specs.Changed.{contents_of};
 ghost use Rattle.xt_outcomes.specs.KeptWorlds.{moved_spot, spot_of};
 ghost use Rattle.xt_outcomes.specs.Marks.{IsSameWorld};
 ghost use Rattle.xt_outcomes.specs.Spots.{side_of};
@@ -10,7 +10,7 @@ use crate::shelf::{Part, Shelf};
 use crate::sides::Side;
 use std::alloc::{AllocError, Global};
 use std::rc::Rc;
-use xt_changes::Changes;
+use xt_search::Changes;
 
 /// Two cores between two turns, and what memory holds. Worlds share what is equal in them.
 pub struct World {

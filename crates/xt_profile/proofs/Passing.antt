@@ -12,7 +12,8 @@ use Rattle.xt_frames.specs.Nesting.{current, is_nesting}
 use Rattle.xt_frames.specs.SaveAreas.{is_live}
 use Rattle.xt_frames.specs.Judging.{Standing, Seen, Handled, Judges, Breaks, handled_record, live_of, seen_in, seen_judged, seen_step, seen_window, step_on}
 use Rattle.xt_frames.specs.Verdict.{Known, Judgement, judgement, passed_0, passed_1, seen_0, seen_1}
-use Rattle.xt_discipline.specs.Phases.{step_phase}
+use Rattle.xt_discipline.specs.declared.roles.Role.TheVariants.{Own, Entry, HandlerStep, NestedStep}
+use Rattle.xt_discipline.specs.Phases.{phase_of, step_phase}
 use Rattle.xt_profile.specs.Steps.{frame_after}
 use Rattle.xt_profile.specs.Follows.{IsNext}
 
@@ -35,19 +36,19 @@ plain_passes : (code : ℕ → ℕ) (b : Bounds) (st : Standing) (others stale :
     → Passes code st x (if w then seen_window (window_breach code x.kind (with_inputs (inputs_of x) (current st.frame))) st.frame else seen_judged code b st others stale false x)
 plain_passes code b st others stale x m true w =
     let phase : phase_after code st.phase x ≡ InHandler = ap (λ (y : HandlerPhase). phase_after code y x) m ∙ ap (λ (z : Bool). if z then InHandler else Outside) w in
-    let is : step_phase st.phase x.kind ≡ InHandler = ap (λ (y : HandlerPhase). step_phase y x.kind) m ∙ ap (λ (z : Bool). if z then InHandler else Outside) w in
+    let is : step_phase st.phase x.kind ≡ InHandler = ap (λ (y : HandlerPhase). step_phase y x.kind) m ∙ ap (λ (z : Bool). phase_of (if z then Entry else Own)) w in
     window_passes code st x (sym phase) (sym (ap (λ (y : HandlerPhase). frame_after code y x st.frame) is)) (window_breach code x.kind (with_inputs (inputs_of x) (current st.frame)))
 plain_passes code b st others stale x m false w =
-    let is : step_phase st.phase x.kind ≡ Outside = ap (λ (y : HandlerPhase). step_phase y x.kind) m ∙ ap (λ (z : Bool). if z then InHandler else Outside) w in
+    let is : step_phase st.phase x.kind ≡ Outside = ap (λ (y : HandlerPhase). step_phase y x.kind) m ∙ ap (λ (z : Bool). phase_of (if z then Entry else Own)) w in
     judged_passes code b st others stale false x (ap (λ (y : HandlerPhase). frame_after code y x st.frame) is) (breach_of b st.fresh code (live_of b st.frame others) stale false x st.frame)
 
 handles_passes : (code : ℕ → ℕ) (b : Bounds) (st : Standing) (others stale : ℕ → Bool) (x : StepRecord) → st.phase ≡ InHandler → (w : Bool) → is_nesting x.kind ≡ w
     → Passes code st x (if w then seen_judged code b st others stale true x else handled_record code st x)
 handles_passes code b st others stale x m true w =
-    let is : step_phase st.phase x.kind ≡ Nested = ap (λ (y : HandlerPhase). step_phase y x.kind) m ∙ ap (λ (z : Bool). if z then Nested else InHandler) w in
+    let is : step_phase st.phase x.kind ≡ Nested = ap (λ (y : HandlerPhase). step_phase y x.kind) m ∙ ap (λ (z : Bool). phase_of (if z then NestedStep else HandlerStep)) w in
     judged_passes code b st others stale true x (ap (λ (y : HandlerPhase). frame_after code y x st.frame) is) (breach_of b st.fresh code (live_of b st.frame others) stale true x st.frame)
 handles_passes code b st others stale x m false w =
-    let is : step_phase st.phase x.kind ≡ InHandler = ap (λ (y : HandlerPhase). step_phase y x.kind) m ∙ ap (λ (z : Bool). if z then Nested else InHandler) w in
+    let is : step_phase st.phase x.kind ≡ InHandler = ap (λ (y : HandlerPhase). step_phase y x.kind) m ∙ ap (λ (z : Bool). phase_of (if z then NestedStep else HandlerStep)) w in
     record { phase_is = refl; frame_is = sym (ap (λ (y : HandlerPhase). frame_after code y x st.frame) is) }
 
 seen_passes : (code : ℕ → ℕ) (b : Bounds) (st : Standing) (others stale : ℕ → Bool) (x : StepRecord) (m : HandlerPhase) → st.phase ≡ m → Passes code st x (seen_in m code b st others stale x)

@@ -26,7 +26,7 @@ use Rattle.xt_map.specs.Regions.{region_of, is_memory}
 use Rattle.xt_map.specs.Touching.{touches}
 use Rattle.xt_trace.specs.declared.record.StepRecord.{StepRecord}
 use Rattle.xt_trace.specs.declared.run.Run.{Run}
-use Rattle.xt_fetch.specs.Fetching.{Fetched, Fetches, Fails, SpellsNothing, fetch_at}
+use Rattle.xt_map.specs.Fetching.{Fetched, Fetches, Fails, SpellsNothing, fetch_at}
 use Rattle.xt_image.specs.declared.image.Image.{Image}
 use Rattle.xt_core.specs.Runs.{code_of, records_of}
 use Rattle.xt_race.specs.declared.event.Event.{Event}

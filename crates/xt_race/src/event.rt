@@ -1,7 +1,7 @@
 //! Entries of a history, with the turns that made them.
 ghost use Rattle.std.specs.Prelude.{◌≡◌};
 ghost use Rattle.xt_map.specs.Memory.{constant_byte};
-ghost use Rattle.xt_fetch.specs.Fetching.{fetch_at};
+ghost use Rattle.xt_map.specs.Fetching.{fetch_at};
 ghost use Rattle.xt_race.specs.Races.{acquires, order_in, order_of, releases, synchronises, writes};
 ghost use Rattle.xt_race.specs.Clashes.{clash, shares_byte, touches_memory};
 

@@ -3,7 +3,7 @@ ghost use Rattle.std.specs.Prelude.{◌≡◌, ◌++◌, OnOk};
 ghost use Rattle.xt_exec.specs.States.{file_state};
 ghost use Rattle.xt_record.specs.Checkpoints.{checkpoint_bytes, file_bytes, special_bytes, state_bytes};
 
-use crate::file::OwnFile;
+use crate::file::WalkFile;
 use crate::words::{put_word, put_words};
 use std::alloc::AllocError;
 use xt_bus::Memory;
@@ -75,7 +75,7 @@ fn put_registers(out: &mut Vec<u8>, special: &Special, numbers: &[u8]) -> Result
 
 // Writes the 64 physical registers.
 #[tactic(auto, unfolding(crate::specs::Checkpoints::file_bytes))]
-fn put_file(out: &mut Vec<u8>, win: &OwnFile) -> Result<(), AllocError>
+fn put_file(out: &mut Vec<u8>, win: &WalkFile) -> Result<(), AllocError>
     ensures { OnOk result (out.new.items ≡ out.old.items ++ file_bytes win.now.regs) }
 {
     let mut win = *win;
@@ -88,7 +88,7 @@ fn put_file(out: &mut Vec<u8>, win: &OwnFile) -> Result<(), AllocError>
 
 // Writes the state of a core that makes its turn of this number next.
 #[tactic(auto, unfolding(crate::specs::Checkpoints::state_bytes))]
-fn put_state(out: &mut Vec<u8>, step: u32, regs: &Regs<OwnFile>) -> Result<(), AllocError>
+fn put_state(out: &mut Vec<u8>, step: u32, regs: &Regs<WalkFile>) -> Result<(), AllocError>
     ensures { OnOk result (out.new.items ≡ out.old.items ++ state_bytes step (file_state regs.now)) }
 {
     let (win, special) = (&regs.win, &regs.sr);
@@ -109,8 +109,8 @@ pub(crate) fn put_point(
     out: &mut Vec<u8>,
     position: u32,
     entries: u32,
-    core0: &Core<OwnFile>,
-    core1: &Core<OwnFile>,
+    core0: &Core<WalkFile>,
+    core1: &Core<WalkFile>,
     memory: &Memory,
 ) -> Result<(), AllocError>
     ensures { OnOk result (out.new.items ≡ out.old.items ++ checkpoint_bytes position entries core0.now.count core0.now.state core1.now.count core1.now.state memory.now.contents) }

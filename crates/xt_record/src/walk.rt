@@ -7,7 +7,7 @@ ghost use Rattle.xt_trace.specs.Validity.{IsValid};
 ghost use Rattle.xt_record.specs.Standing.{IsFree, Stands, StandsOpen, TakesAt, Walks, WentOn, WentThrough};
 
 use crate::fault::RecordFault;
-use crate::file::OwnFile;
+use crate::file::WalkFile;
 use crate::setting::Setting;
 use crate::walking::{File, end, take_entry};
 use std::alloc::{AllocError, Global};
@@ -67,8 +67,8 @@ impl<'a> Walk<'a> {
         Ok(Walk {
             image,
             options: *options,
-            core0: Core::make(alloc, 0, image.entry, options, OwnFile::new())?,
-            core1: Core::make(alloc, 1, options.entry1, options, OwnFile::new())?,
+            core0: Core::make(alloc, 0, image.entry, options, WalkFile::new())?,
+            core1: Core::make(alloc, 1, options.entry1, options, WalkFile::new())?,
             setting: opening_setting(alloc, image, options)?,
         })
     }

@@ -5,7 +5,7 @@ ghost use Rattle.xt_record.specs.TurnRules.{same_access, same_kind};
 ghost use Rattle.xt_record.specs.Walking.{Arrives, Ends, HasRoom, Takes, due_beside, point_beside};
 
 use crate::fault::RecordFault;
-use crate::file::OwnFile;
+use crate::file::WalkFile;
 use crate::points::{POINT_SIZE, put_point};
 use crate::setting::Setting;
 use std::alloc::{AllocError, Global};
@@ -14,7 +14,7 @@ use xt_map::{Access, Bytes, Entry, Kind};
 
 const STRIDE: u32 = 131_072;
 
-pub(crate) type File = Core<OwnFile>;
+pub(crate) type File = Core<WalkFile>;
 
 // The checkpoint of two cores, of which the first has this number, and of memory, after so many
 // entries.

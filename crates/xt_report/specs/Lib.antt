@@ -4,3 +4,13 @@ pub mod Reports
 pub mod Checks
 pub mod Summaries
 pub mod Framed
+pub mod UsesText
+pub mod Held
+pub mod UseFindings
+pub mod SecretsText
+pub mod SecretFindings
+pub mod Statuses
+pub mod Calls
+pub mod Writes
+pub mod Inputs
+pub mod Pieces

@@ -19,7 +19,7 @@ use Rattle.xt_special.specs.declared.ps.Ps.{Ps}
 use Rattle.xt_special.specs.Access.{value_read}
 use Rattle.xt_special.specs.Control.{bit_of, ps_of, ps_word}
 use Rattle.xt_special.specs.Shape.{IsPs}
-use Rattle.xt_fetch.specs.Code.{code_number}
+use Rattle.xt_map.specs.Code.{code_number}
 use Rattle.xt_rows.specs.Numbers.{plus, minus, loaded_value, return_address}
 
 -- ---- sums, products and quotients

@@ -80,7 +80,7 @@ use Rattle.xt_word.specs.Arithmetic.{addx, subx, mul16u, mul16s, mull, muluh, mu
 use Rattle.xt_word.specs.Shifts.{src, srl, sra, sll, slli, srai, srli, extui, ssr, ssl, ssa8l, ssa8b}
 use Rattle.xt_word.specs.Registers.{logic, group}
 use Rattle.xt_word.specs.declared.booleans.BoolOp.TheVariants as op
-use Rattle.xt_fetch.specs.Code.{code_number}
+use Rattle.xt_map.specs.Code.{code_number}
 use Rattle.xt_rows.specs.declared.outcome.ReplyTarget.{ReplyTarget}
 use Rattle.xt_rows.specs.declared.outcome.Flow.TheVariants.{Goes}
 use Rattle.xt_rows.specs.declared.outcome.WindowRegister.{WindowRegister}

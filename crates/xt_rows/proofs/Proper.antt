@@ -8,7 +8,7 @@ use Rattle.xt_special.specs.declared.ps.Ps.{Ps}
 use Rattle.xt_special.specs.Control.{ps_word, ps_of}
 use Rattle.xt_special.specs.Access.{value_read, value_kept, changed_by, ps_written, timer_bit, without_bits, is_ccompare, software_bits, written_by, set_to, no_set, no_sets}
 use Rattle.xt_special.specs.Shape.{IsPs, CanHold, IsProperSet, AreProperSets}
-use Rattle.xt_fetch.specs.Code.{AreBytes, code_number}
+use Rattle.xt_map.specs.Code.{AreBytes, code_number}
 use Rattle.xt_rows.specs.declared.outcome.Flow.TheVariants.{Falls, Goes}
 use Rattle.xt_isa.specs.Ranges.{in_range}
 use Rattle.xt_rows.specs.Numbers.{natural, loaded_value, return_address, branch_target, address_behind}

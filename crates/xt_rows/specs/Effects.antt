@@ -15,7 +15,7 @@ use Rattle.xt_special.specs.declared.ps.Ps.{Ps}
 use Rattle.xt_special.specs.Numbers as number
 use Rattle.xt_special.specs.Access.{value_read, ps_written, written_by, set_to, no_set}
 use Rattle.xt_special.specs.Access.{no_sets}
-use Rattle.xt_fetch.specs.Code.{code_number}
+use Rattle.xt_map.specs.Code.{code_number}
 use Rattle.xt_trace.specs.declared.record.RegWrite.{RegWrite}
 use Rattle.xt_rows.specs.declared.outcome.ReplyTarget.{ReplyTarget}
 use Rattle.xt_rows.specs.declared.outcome.Flow.TheVariants.{Falls, Goes}

@@ -6,8 +6,7 @@ ghost use Rattle.xt_rows.specs.Effects.{asks, branches, calls, exchanges_special
 use crate::cause;
 use crate::numbers::{address_behind, branch_target, loaded_value, minus, return_address};
 use crate::outcome::{Effect, Flow, Outcome, ReplyTarget, WindowRegister, WindowStep};
-use xt_fetch::code_number;
-use xt_map::{Access, Constants, Kind, is_constant_at, mapped};
+use xt_map::{Access, Constants, Kind, code_number, is_constant_at, mapped};
 use xt_special::{Ps, number, set_to};
 use xt_trace::RegWrite;
 

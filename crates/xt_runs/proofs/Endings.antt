@@ -9,8 +9,8 @@ use Rattle.xt_image.specs.Format.{image_of}
 use Rattle.xt_trace.specs.declared.run.Run.{Run}
 use Rattle.xt_record.specs.Written.{recording_bytes}
 use Rattle.xt_command_line.specs.declared.options.RunOptions.{RunOptions}
-use Rattle.xt_status.specs.declared.status.Status.{Status}
-use Rattle.xt_status.specs.declared.status.Status.TheVariants as status
+use Rattle.xt_report.specs.declared.status.Status.{Status}
+use Rattle.xt_report.specs.declared.status.Status.TheVariants as status
 use Rattle.xt_report.specs.declared.whole.Whole.{Whole}
 use Rattle.xt_runs.specs.declared.outcome.Wanted.{Wanted}
 use Rattle.xt_runs.specs.declared.outcome.Wanted.TheVariants as wanted
@@ -20,8 +20,8 @@ use Rattle.xt_runs.specs.Runs.{HasRun, IsOutput, IsRunOfImage, IsText, Runs, ima
 use Rattle.xt_runs.specs.Requirements.{IsUnmet}
 use Rattle.xt_runs.specs.Told.{IsTold, run_in, told_text, verdict_in}
 use Rattle.xt_runs.specs.Verdicts.{IsJudged, whole_of}
-use Rattle.xt_status.specs.Calls.{Ends}
-use Rattle.xt_status.proofs.Quiet.{taken_within}
+use Rattle.xt_report.specs.Calls.{Ends}
+use Rattle.xt_report.proofs.Quiet.{taken_within}
 
 -- ---- what is written
 

@@ -8,8 +8,8 @@ use Rattle.xt_image.specs.ImageParts.{image_bytes}
 use Rattle.xt_gen.specs.Generated.{generated_image}
 use Rattle.xt_command_line.specs.declared.options.RunOptions.{RunOptions}
 use Rattle.xt_command_line.specs.Options.{AreValid}
-use Rattle.xt_status.specs.declared.status.Status.{Status}
-use Rattle.xt_status.specs.declared.status.Status.TheVariants as status
+use Rattle.xt_report.specs.declared.status.Status.{Status}
+use Rattle.xt_report.specs.declared.status.Status.TheVariants as status
 use Rattle.xt_trace.specs.declared.run.Run.{Run}
 use Rattle.xt_report.specs.declared.whole.Whole.{Whole}
 use Rattle.xt_report.specs.Summaries.{summary_text}

@@ -8,8 +8,8 @@ use Rattle.xt_race.specs.RaceTexts.{IsRaceText}
 use Rattle.xt_profile.specs.Profiled.{profile_of}
 use Rattle.xt_profile.specs.ProfileText.{profile_text}
 use Rattle.xt_uses.specs.declared.discipline.Discipline.TheVariants.{Strict}
-use Rattle.xt_use_report.specs.UseFindings.{IsUsesTold}
-use Rattle.xt_use_report.specs.SecretFindings.{AreSecretsTold}
+use Rattle.xt_report.specs.UseFindings.{IsUsesTold}
+use Rattle.xt_report.specs.SecretFindings.{AreSecretsTold}
 use Rattle.xt_command_line.specs.declared.options.RunOptions.{RunOptions}
 use Rattle.xt_command_line.specs.declared.secrets.SecretOptions.{SecretOptions}
 use Rattle.xt_runs.specs.Memory.{memory_text}

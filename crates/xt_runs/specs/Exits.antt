@@ -11,7 +11,7 @@ use Rattle.xt_isa.specs.declared.system.System.TheVariants as system
 use Rattle.xt_isa.specs.declared.system.TrapName.TheVariants as TrapName
 use Rattle.xt_window.specs.Ring.{visible}
 use Rattle.xt_image.specs.declared.image.Image.{Image}
-use Rattle.xt_fetch.specs.Fetching.{Fetched, Fetches, fetch_at}
+use Rattle.xt_map.specs.Fetching.{Fetched, Fetches, fetch_at}
 use Rattle.xt_trace.specs.declared.run.Run.{Run}
 use Rattle.xt_trace.specs.declared.trace.Stop.{Stop}
 use Rattle.xt_trace.specs.declared.trace.Stop.TheVariants as stop

@@ -17,7 +17,7 @@ use Rattle.xt_use_walk.specs.Verdicts.{IsUsesOf}
 use Rattle.xt_use_walk.specs.declared.walk.Uses.{Uses}
 use Rattle.xt_use_walk.specs.declared.walk.Uses.TheVariants as uses
 use Rattle.xt_discipline.specs.Verdicts.{are_checked, course_of}
-use Rattle.xt_use_report.specs.SecretsText.{leak_line}
+use Rattle.xt_report.specs.SecretsText.{leak_line}
 use Rattle.xt_secret_walk.specs.Answers.{IsSecretsOf}
 use Rattle.xt_secret_walk.specs.declared.leak.Secrets.{Secrets}
 use Rattle.xt_secret_walk.specs.declared.leak.Secrets.TheVariants as secrets

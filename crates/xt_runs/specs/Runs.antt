@@ -23,9 +23,9 @@ use Rattle.xt_command_line.specs.TurnOrders.{cores_of}
 use Rattle.xt_command_line.specs.declared.options.RunOptions.{RunOptions}
 use Rattle.xt_command_line.specs.declared.turn_orders.TurnOrder.{TurnOrder}
 use Rattle.xt_command_line.specs.declared.turn_orders.TurnOrder.TheVariants as order
-use Rattle.xt_status.specs.declared.status.Status.{Status}
-use Rattle.xt_status.specs.declared.status.Status.TheVariants as status
-use Rattle.xt_status.specs.Calls.{Ends, ReadsWhole, TakesWithin}
+use Rattle.xt_report.specs.declared.status.Status.{Status}
+use Rattle.xt_report.specs.declared.status.Status.TheVariants as status
+use Rattle.xt_report.specs.Calls.{Ends, ReadsWhole, TakesWithin}
 use Rattle.xt_report.specs.declared.whole.Whole.{Whole}
 use Rattle.xt_runs.specs.declared.outcome.Wanted.{Wanted}
 use Rattle.xt_runs.specs.declared.outcome.Wanted.TheVariants as wanted

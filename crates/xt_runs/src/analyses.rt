@@ -13,8 +13,8 @@ use xt_image::{Image, well_formed_is_placed};
 use xt_map::Text;
 use xt_profile::{profile, profile_text};
 use xt_race::race_text;
+use xt_report::{secrets_text, uses_text};
 use xt_trace::Run;
-use xt_use_report::{secrets_text, uses_text};
 use xt_uses::Discipline;
 
 // The text of `events`, where it is wanted.

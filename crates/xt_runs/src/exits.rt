@@ -1,7 +1,7 @@
 //! How the cores of a run end: by `break 1, 15` with 0 in a2, or otherwise.
 ghost use Rattle.std.specs.Prelude.{◌≡◌, ◌<◌, IfOk, string_bytes};
 ghost use Rattle.xt_core.specs.Runs.{IsRunOf};
-ghost use Rattle.xt_fetch.specs.Fetching.{fetch_at};
+ghost use Rattle.xt_map.specs.Fetching.{fetch_at};
 ghost use Rattle.xt_image.specs.ImageParts.{IsWellFormed};
 ghost use Rattle.xt_map.specs.Memory.{constant_byte};
 ghost use Rattle.xt_replay.specs.Shown.{state_in};

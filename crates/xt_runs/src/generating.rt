@@ -17,8 +17,7 @@ use xt_gen::generated_image;
 use xt_image::{Image, written_length};
 use xt_io::{Gate, Refused, Sink};
 use xt_map::Text;
-use xt_report::summary;
-use xt_status::{Status, write_text};
+use xt_report::{Status, summary, write_text};
 use xt_trace::{Run, Stack};
 
 // The options with which the image of a number runs.

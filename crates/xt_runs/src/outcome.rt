@@ -2,7 +2,7 @@
 ghost use Rattle.std.specs.Prelude.{◌≡◌, None};
 
 use xt_map::Text;
-use xt_status::Status;
+use xt_report::Status;
 use xt_trace::Run;
 
 /// What is written of a run of an image.

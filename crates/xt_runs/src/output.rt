@@ -2,13 +2,12 @@
 ghost use Rattle.std.specs.Prelude.{◌≡◌, ◌++◌, length};
 ghost use Rattle.xt_report.specs.Reports.{report_text};
 ghost use Rattle.xt_runs.specs.Traces.{lines_from, trace_text};
-ghost use Rattle.xt_status.specs.Writes.{Writes};
+ghost use Rattle.xt_report.specs.Writes.{Writes};
 
 use std::alloc::Global;
 use xt_io::{Refused, Sink, write_all};
 use xt_map::Text;
-use xt_report::{Whole, report};
-use xt_status::{Piece, write_text};
+use xt_report::{Piece, Whole, report, write_text};
 use xt_trace::{Records, Run, line};
 
 // Writes the lines of a core's records. It gathers up to 65,536 bytes of them for each write.

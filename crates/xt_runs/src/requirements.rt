@@ -14,10 +14,9 @@ use xt_frames::Judged;
 use xt_image::{Image, well_formed_is_placed};
 use xt_map::Text;
 use xt_race::{Race, first_race};
-use xt_report::{breach_text, frames_line};
+use xt_report::{breach_text, frames_line, leak_line, secrets_of, uses_of};
 use xt_secret_walk::Secrets;
 use xt_trace::Run;
-use xt_use_report::{leak_line, secrets_of, uses_of};
 use xt_use_walk::Uses;
 use xt_uses::Discipline;
 

@@ -6,8 +6,8 @@ ghost use Rattle.xt_image.specs.ImageParts.{IsWellFormed};
 ghost use Rattle.xt_record.specs.Written.{recording_bytes};
 ghost use Rattle.xt_runs.specs.Runs.{FinishesRun, Runs, run_text};
 ghost use Rattle.xt_runs.specs.Told.{run_in, told_text};
-ghost use Rattle.xt_status.specs.Calls.{ends};
-ghost use Rattle.xt_status.specs.Writes.{Writes};
+ghost use Rattle.xt_report.specs.Calls.{ends};
+ghost use Rattle.xt_report.specs.Writes.{Writes};
 
 use crate::outcome::{Outcome, Wanted, without_run};
 use crate::output::{write_analyzed, write_traced};
@@ -24,8 +24,7 @@ use xt_image::{Image, well_formed_is_placed};
 use xt_io::{Gate, ReadError, Refused, Sink, Source, read_to_limit, write_all};
 use xt_map::Text;
 use xt_record::write_recording;
-use xt_report::Whole;
-use xt_status::{IMAGE_LIMIT, Status, image_in};
+use xt_report::{IMAGE_LIMIT, Status, Whole, image_in};
 use xt_trace::Run;
 
 /// Writes what `run` writes of a run of an image: the report, the texts of its analyses, and where the

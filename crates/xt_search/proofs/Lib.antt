@@ -4,3 +4,9 @@ pub mod Endings
 pub mod Marking
 pub mod Meeting
 pub mod Searching
+pub mod Same
+pub mod Putting
+pub mod Placing
+pub mod Sending
+pub mod Leaning
+pub mod Commuting

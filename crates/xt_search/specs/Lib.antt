@@ -4,3 +4,5 @@ pub mod Chains
 pub mod Ends
 pub mod Searched
 pub mod Meetings
+pub mod Changed
+pub mod Apart

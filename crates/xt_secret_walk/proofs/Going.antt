@@ -7,10 +7,10 @@ use Rattle.xt_map.specs.Memory.{constant_byte}
 use Rattle.xt_trace.specs.declared.record.StepRecord.{StepRecord}
 use Rattle.xt_exec.specs.State.{State}
 use Rattle.xt_frames.specs.FirstBreach.{Turn, records_of, turn_of, turns}
-use Rattle.xt_secrets.specs.Knowledge.{Knowledge}
-use Rattle.xt_secrets.specs.FirstLeak.{IsFirstLeak, Standing, Watched, carried_count, carries_at, opening_standing, standing_before, standing_over, standing_past, uses_at}
-use Rattle.xt_secrets.specs.WatchedRuns.{has_byte_at}
-use Rattle.xt_secret_walk.specs.declared.bytes.SecretMasks.{SecretMasks}
+use Rattle.xt_simulation.specs.Knowledge.{Knowledge}
+use Rattle.xt_simulation.specs.FirstLeak.{IsFirstLeak, Standing, Watched, carried_count, carries_at, opening_standing, standing_before, standing_over, standing_past, uses_at}
+use Rattle.xt_simulation.specs.WatchedRuns.{has_byte_at}
+use Rattle.xt_use_walk.specs.declared.bytes.ByteMasks.{ByteMasks}
 use Rattle.xt_secret_walk.specs.declared.leak.End.{End}
 use Rattle.xt_secret_walk.specs.declared.leak.End.TheVariants.{NoTurn, Leaks}
 use Rattle.xt_secret_walk.specs.declared.leak.FirstLeak.{FirstLeak}
@@ -132,7 +132,7 @@ module _ (r : Watched) (w : Walk) (cores : List ℕ) (p : ℕ) where
 
   -- ---- core 0
 
-  module _ (on : IsOn r w (0 ∷ cores) p) (side : Side) (c : SecretMasks) (leak : Option FirstLeak) where
+  module _ (on : IsOn r w (0 ∷ cores) p) (side : Side) (c : ByteMasks) (leak : Option FirstLeak) where
     zero_at : (x : StepRecord) (rest : List StepRecord) → xs ≡ x ∷ rest → IsAt r.turns p (turn_of 0 x) (turns cores rest ys)
     zero_at x rest e = next_at r.turns p (turn_of 0 x) (turns cores rest ys) (on.rest ∙ ap (λ (l : List StepRecord). turns (0 ∷ cores) l ys) e)
 
@@ -179,7 +179,7 @@ module _ (r : Watched) (w : Walk) (cores : List ℕ) (p : ℕ) where
 
   -- ---- core 1
 
-  module _ (on : IsOn r w (1 ∷ cores) p) (side : Side) (c : SecretMasks) (leak : Option FirstLeak) where
+  module _ (on : IsOn r w (1 ∷ cores) p) (side : Side) (c : ByteMasks) (leak : Option FirstLeak) where
     one_at : (x : StepRecord) (rest : List StepRecord) → ys ≡ x ∷ rest → IsAt r.turns p (turn_of 1 x) (turns cores xs rest)
     one_at x rest e = next_at r.turns p (turn_of 1 x) (turns cores xs rest) (on.rest ∙ ap (λ (l : List StepRecord). turns (1 ∷ cores) xs l) e)
 
@@ -226,7 +226,7 @@ module _ (r : Watched) (w : Walk) (cores : List ℕ) (p : ℕ) where
 
 -- ---- as the code has it
 
-pub zero_turned : (r : Watched) (w : Walk) (cores : List ℕ) (p core : ℕ) (side : Side) (c : SecretMasks) (leak : Option FirstLeak) (x : Result Unit End) → core ≡ 0 → IsOn r w (core ∷ cores) p
+pub zero_turned : (r : Watched) (w : Walk) (cores : List ℕ) (p core : ℕ) (side : Side) (c : ByteMasks) (leak : Option FirstLeak) (x : Result Unit End) → core ≡ 0 → IsOn r w (core ∷ cores) p
     → ((masks : ℕ → ℕ) → KnowsBytes w.bytes (has_byte_at w.public.now) masks → IsNext (constant_byte w.code) (has_byte_at w.public.now) w.side0 side w.bytes c (side_state w.side0) (side_known w.side0) masks leak x)
     → IsTurned r (record w { side0 = side; bytes = c; leak = leak }) cores p x
 zero_turned r w cores p core side c leak x first on next =
@@ -240,7 +240,7 @@ zero_turned r w cores p core side c leak x first on next =
     (subst (λ (f : ℕ → Bool). IsNext r.code f w.side0 side w.bytes c (side_state w.side0) (side_known w.side0) b.learned.bytes leak x) on.public_is
     (subst (λ (f : ℕ → ℕ). IsNext f (has_byte_at w.public.now) w.side0 side w.bytes c (side_state w.side0) (side_known w.side0) b.learned.bytes leak x) on.code_is n))))
 
-pub one_turned : (r : Watched) (w : Walk) (cores : List ℕ) (p core : ℕ) (side : Side) (c : SecretMasks) (leak : Option FirstLeak) (x : Result Unit End) → core ≡ 1 → IsOn r w (core ∷ cores) p
+pub one_turned : (r : Watched) (w : Walk) (cores : List ℕ) (p core : ℕ) (side : Side) (c : ByteMasks) (leak : Option FirstLeak) (x : Result Unit End) → core ≡ 1 → IsOn r w (core ∷ cores) p
     → ((masks : ℕ → ℕ) → KnowsBytes w.bytes (has_byte_at w.public.now) masks → IsNext (constant_byte w.code) (has_byte_at w.public.now) w.side1 side w.bytes c (side_state w.side1) (side_known w.side1) masks leak x)
     → IsTurned r (record w { side1 = side; bytes = c; leak = leak }) cores p x
 one_turned r w cores p core side c leak x one on next =

@@ -23,7 +23,7 @@ use Rattle.xt_window.specs.Ring.{place}
 use Rattle.xt_trace.specs.declared.record.RegWrite.{RegWrite}
 use Rattle.xt_trace.specs.declared.record.StepKind.{StepKind}
 use Rattle.xt_trace.specs.declared.record.StepKind.TheVariants as kind
-use Rattle.xt_fetch.specs.Fetching.{Fetched, Fetches, Fails, SpellsNothing, fetch_at}
+use Rattle.xt_map.specs.Fetching.{Fetched, Fetches, Fails, SpellsNothing, fetch_at}
 use Rattle.xt_rows.specs.Kinds.{is_return, moved_to}
 use Rattle.xt_rows.specs.Numbers.{natural}
 use Rattle.xt_rows.specs.RowLaws.{IsHeld}
@@ -37,10 +37,10 @@ use Rattle.xt_uses.specs.UseLaws.{pointer_mask}
 use Rattle.xt_uses.specs.declared.discipline.Discipline.TheVariants.{Lenient}
 use Rattle.xt_uses.specs.Known.{result_mask}
 use Rattle.xt_uses.proofs.WholeRows.{and_whole, result_whole, used_whole}
-use Rattle.xt_secrets.specs.Knowledge.{Knowledge, all_known, special_word, first_word, second_word, first_special, second_special}
-use Rattle.xt_secrets.specs.TurnUses.{common_used, found_used, insn_used, kind_used, row_used, specials_used, turn_used, window_used}
-use Rattle.xt_secrets.specs.Learning.{doubtful, known_past, regs_past, special_given, ticked_masks, with_mask}
-use Rattle.xt_secrets.specs.FirstLeak.{insn_carries, writes_hidden}
+use Rattle.xt_simulation.specs.Knowledge.{Knowledge, all_known, special_word, first_word, second_word, first_special, second_special}
+use Rattle.xt_simulation.specs.TurnUses.{common_used, found_used, insn_used, kind_used, row_used, specials_used, turn_used, window_used}
+use Rattle.xt_simulation.specs.Learning.{doubtful, known_past, regs_past, special_given, ticked_masks, with_mask}
+use Rattle.xt_simulation.specs.FirstLeak.{insn_carries, writes_hidden}
 use Rattle.xt_secret_walk.specs.declared.masks.CoreMasks.{CoreMasks}
 use Rattle.xt_secret_walk.specs.declared.seen.MaskWrite.{MaskWrite}
 use Rattle.xt_secret_walk.specs.declared.seen.Seen.{Seen}

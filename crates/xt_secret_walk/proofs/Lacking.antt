@@ -1,9 +1,9 @@
 -- The registers that are shown of a leak.
 use Rattle.std.proofs.Common.{◌≡◌, ℕ, Option, Some, None, refl}
-use Rattle.xt_fetch.specs.Fetching.{Fetched, Fetches, Fails, SpellsNothing}
+use Rattle.xt_map.specs.Fetching.{Fetched, Fetches, Fails, SpellsNothing}
 use Rattle.xt_rows.specs.Operands.{reads}
 use Rattle.xt_exec.specs.State.{State}
-use Rattle.xt_secrets.specs.Knowledge.{Knowledge, register_word}
+use Rattle.xt_simulation.specs.Knowledge.{Knowledge, register_word}
 use Rattle.xt_secret_walk.specs.Answers.{lacks_among, lacks_fetched}
 use Rattle.xt_secret_walk.specs.SeenWords.{seen_lacks, seen_of, words_lack}
 

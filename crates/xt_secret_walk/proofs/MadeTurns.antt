@@ -17,13 +17,13 @@ use Rattle.xt_isa.specs.declared.Insn.{Insn}
 use Rattle.xt_trace.specs.declared.record.RegWrite.{RegWrite}
 use Rattle.xt_trace.specs.declared.record.StepKind.{StepKind}
 use Rattle.xt_trace.specs.declared.record.StepKind.TheVariants as kind
-use Rattle.xt_fetch.specs.Fetching.{Fetched, Fetches, Fails, SpellsNothing, fetch_at}
+use Rattle.xt_map.specs.Fetching.{Fetched, Fetches, Fails, SpellsNothing, fetch_at}
 use Rattle.xt_uses.specs.Words.{all_bits}
 use Rattle.xt_uses.specs.UseStep.{step_insn}
-use Rattle.xt_secrets.specs.Learning.{known_past, stored_in, ticked_masks}
-use Rattle.xt_secrets.specs.SecretBytes.{bytes_past}
-use Rattle.xt_secrets.specs.FirstLeak.{insn_carries, stores_hidden}
-use Rattle.xt_secret_walk.specs.declared.bytes.SecretMasks.{SecretMasks}
+use Rattle.xt_simulation.specs.Learning.{known_past, stored_in, ticked_masks}
+use Rattle.xt_simulation.specs.SecretBytes.{bytes_past}
+use Rattle.xt_simulation.specs.FirstLeak.{insn_carries, stores_hidden}
+use Rattle.xt_use_walk.specs.declared.bytes.ByteMasks.{ByteMasks}
 use Rattle.xt_secret_walk.specs.declared.masks.CoreMasks.{CoreMasks}
 use Rattle.xt_secret_walk.specs.declared.seen.Seen.{Seen}
 use Rattle.xt_secret_walk.specs.declared.side.Side.{Side}
@@ -124,7 +124,7 @@ module _ (c d : CoreMasks) (rec : StepRecord) (base reply : ℕ) (carries : Bool
       (kind_after rec.kind (fetch_at code s.control.pc) (subst (λ (x : Option Seen). IsWrittenBy (executed_in rec.kind x) c d rec base reply carries) same w))
 
 -- all of a turn
-pub passed : (public : ℕ → Bool) (old mid new : Side) (b b2 : SecretMasks) (rec : StepRecord) (seen : Option Seen) (reply stored : ℕ) (written hides : Bool)
+pub passed : (public : ℕ → Bool) (old mid new : Side) (b b2 : ByteMasks) (rec : StepRecord) (seen : Option Seen) (reply stored : ℕ) (written hides : Bool)
     → IsWritten old mid rec (executed_in rec.kind seen) reply written → stored ≡ stored_of (executed_in rec.kind seen)
     → ((masks : ℕ → ℕ) → KnowsBytes b public masks → KnowsBytes b2 public (bytes_past public stored rec.access masks)) → hides ≡ stores_hidden public stored rec.access
     → new ≡ record mid { carried = mid.carried + count_of (written || hides); steps = mid.steps + 1 } → IsPassed public old new b b2 rec seen reply

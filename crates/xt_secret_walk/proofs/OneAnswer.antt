@@ -3,8 +3,8 @@ use Rattle.std.proofs.Common.{◌≡◌, Some, None, ℕ, sym, ap, ◌∙◌}
 use Rattle.std.specs.Prelude.{slice_get}
 use Rattle.std.proofs.lemmas.Option.{none-some, same_Some}
 use Rattle.xt_frames.specs.FirstBreach.{Turn, turn_of}
-use Rattle.xt_secrets.specs.FirstLeak.{Leak, Watched}
-use Rattle.xt_secrets.proofs.Leaks.{first_leak_is_one}
+use Rattle.xt_simulation.specs.FirstLeak.{Leak, Watched}
+use Rattle.xt_simulation.proofs.Leaks.{first_leak_is_one}
 use Rattle.xt_secret_walk.specs.declared.leak.FirstLeak as told
 use Rattle.xt_secret_walk.specs.declared.leak.Secrets.TheVariants.{Whole, Leaks}
 use Rattle.xt_secret_walk.specs.Answers.{IsLeaks, SecretsAreOne, lacks_at}

@@ -8,9 +8,9 @@ use Rattle.xt_trace.specs.Traces.{trace_over}
 use Rattle.xt_exec.specs.Chips.{processor}
 use Rattle.xt_core.specs.Runs.{IsRunOf, code_of, records_of, turns_of}
 use Rattle.xt_frames.specs.FirstBreach.{turns}
-use Rattle.xt_secrets.specs.FirstLeak.{Watched, standing_before}
-use Rattle.xt_secrets.specs.SecretBytes.{opening_bytes}
-use Rattle.xt_secrets.specs.WatchedRuns.{has_byte_at, watched_of}
+use Rattle.xt_simulation.specs.FirstLeak.{Watched, standing_before}
+use Rattle.xt_simulation.specs.SecretBytes.{opening_bytes}
+use Rattle.xt_simulation.specs.WatchedRuns.{has_byte_at, watched_of}
 use Rattle.xt_secret_walk.specs.declared.side.Side.{Side}
 use Rattle.xt_secret_walk.specs.declared.walk.Walk.{Walk}
 use Rattle.xt_secret_walk.specs.KnownBytes.{KnowsBytes}

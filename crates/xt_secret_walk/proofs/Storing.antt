@@ -10,14 +10,14 @@ use Rattle.xt_map.specs.Regions.{is_mapped, is_memory, region_of}
 use Rattle.xt_map.specs.Touching.{is_store, touches}
 use Rattle.xt_frames.specs.Breaches.{some_byte}
 use Rattle.xt_uses.specs.FirstUse.{stored_byte}
-use Rattle.xt_secrets.specs.SecretBytes.{mask_stored}
-use Rattle.xt_use_walk.specs.MaskedBytes.{is_byte, place, put_at}
+use Rattle.xt_simulation.specs.SecretBytes.{mask_stored}
+use Rattle.xt_use_walk.specs.MaskedBytes.{AreMasks, IsFull, is_byte, mask_at, place, put_at}
 use Rattle.xt_use_walk.proofs.Places.{place_small, touches_nothing}
 use Rattle.xt_use_walk.proofs.Served.{touches_no_byte}
-use Rattle.xt_secrets.specs.FirstLeak.{stores_hidden}
-use Rattle.xt_secrets.specs.SecretBytes.{bytes_past, opening_bytes}
-use Rattle.xt_secret_walk.specs.declared.bytes.SecretMasks.{SecretMasks}
-use Rattle.xt_secret_walk.specs.KnownBytes.{AreMasks, IsFull, KnowsBytes, address_at, is_hidden_byte, mask_at, stored_in_bytes}
+use Rattle.xt_simulation.specs.FirstLeak.{stores_hidden}
+use Rattle.xt_simulation.specs.SecretBytes.{bytes_past, opening_bytes}
+use Rattle.xt_use_walk.specs.declared.bytes.ByteMasks.{ByteMasks}
+use Rattle.xt_secret_walk.specs.KnownBytes.{KnowsBytes, address_at, is_hidden_byte, stored_in_bytes}
 
 -- ---- as a run begins
 
@@ -61,7 +61,7 @@ address_of_place a h = by (region_of a) refl h
     by (Some RtcSlow) e m = let p = rtc_slow_range a e in slow a p.0 p.1
     by _ e m = absurd (true≢false (sym m))
 
-pub opened : (x : SecretMasks) (secret public : ℕ → Bool) → IsFull x → ((k : ℕ) → k < 0x56000 → get_or x.masks.items k 0 ≡ opening_bytes secret public (address_at k)) → KnowsBytes x public (opening_bytes secret public)
+pub opened : (x : ByteMasks) (secret public : ℕ → Bool) → IsFull x → ((k : ℕ) → k < 0x56000 → get_or x.masks.items k 0 ≡ opening_bytes secret public (address_at k)) → KnowsBytes x public (opening_bytes secret public)
 opened x secret public full each = record {
   full = full;
   masks_are = λ a h. each (place a) (place_small a h) ∙ ap (opening_bytes secret public) (address_of_place a h);
@@ -81,14 +81,14 @@ kept hidden mask = cond hidden mask 255
 touches_next : (from k a : ℕ) → touches from (k + 1) a ≡ cond (eqb a (from + k)) true (touches from k a)
 touches_next from k a = grind (arith, nat_tests)
 
-pub none_stored : (public : ℕ → Bool) (m : SecretMasks) (stored addr : ℕ) → AreMasks m (stored_in_bytes public stored addr 0 (mask_at m))
+pub none_stored : (public : ℕ → Bool) (m : ByteMasks) (stored addr : ℕ) → AreMasks m (stored_in_bytes public stored addr 0 (mask_at m))
 none_stored public m stored addr a h = sym (cond-false (touches addr 0 a) _ (mask_at m a) (touches_nothing addr a))
 
 one_over : (e t : Bool) (x y m p q : ℕ) → (e ≡ true → p ≡ q) → y ≡ cond t q m → x ≡ cond e p y → x ≡ cond (cond e true t) q m
 one_over true t x y m p q f h k = k ∙ f refl
 one_over false t x y m p q f h k = k ∙ h
 
-pub one_stored : (public : ℕ → Bool) (f : ℕ → ℕ) (mid new : SecretMasks) (stored addr k mask : ℕ) → mask ≡ kept (is_hidden_byte public stored addr (addr + k)) (stored_byte stored addr (addr + k))
+pub one_stored : (public : ℕ → Bool) (f : ℕ → ℕ) (mid new : ByteMasks) (stored addr k mask : ℕ) → mask ≡ kept (is_hidden_byte public stored addr (addr + k)) (stored_byte stored addr (addr + k))
     → AreMasks mid (stored_in_bytes public stored addr k f) → AreMasks new (put_at (addr + k) mask (mask_at mid)) → AreMasks new (stored_in_bytes public stored addr (k + 1) f)
 one_stored public f mid new stored addr k mask is before put a h =
     one_over (eqb a (addr + k)) (touches addr k a) (mask_at new a) (mask_at mid a) (f a) mask (kept (is_hidden_byte public stored addr a) (stored_byte stored addr a))
@@ -140,23 +140,23 @@ module _ (public : ℕ → Bool) (masks : ℕ → ℕ) (stored : ℕ) where
   by_public false x y f g = g refl
 
   -- no byte of memory is stored
-  kept_past : (x : SecretMasks) (o : Option Access) → KnowsBytes x public masks → ((a : ℕ) → is_byte a ≡ true → masks a ≡ mask_stored stored o masks a) → KnowsBytes x public (bytes_past public stored o masks)
+  kept_past : (x : ByteMasks) (o : Option Access) → KnowsBytes x public masks → ((a : ℕ) → is_byte a ≡ true → masks a ≡ mask_stored stored o masks a) → KnowsBytes x public (bytes_past public stored o masks)
   kept_past x o k same = record {
     full = k.full;
     masks_are = λ a h. by_public (public a) (mask_at x a) (mask_stored stored o masks a) (λ p. k.masks_are a h ∙ k.public_are a p) (λ n. k.masks_are a h ∙ same a h);
     public_are = past_public o;
   }
 
-  pub none_past : (x : SecretMasks) (o : Option Access) → o ≡ None → KnowsBytes x public masks → KnowsBytes x public (bytes_past public stored o masks)
+  pub none_past : (x : ByteMasks) (o : Option Access) → o ≡ None → KnowsBytes x public masks → KnowsBytes x public (bytes_past public stored o masks)
   none_past x o e k = kept_past x o k (λ a h. sym (ap (λ (p : Option Access). mask_stored stored p masks a) e))
 
   at_some : (o : Option Access) (a : Access) (b : ℕ) → o ≡ Some a → (is_store a.kind && touches a.addr a.size b) ≡ false → masks b ≡ mask_stored stored o masks b
   at_some o a b e none = sym (ap (λ (p : Option Access). mask_stored stored p masks b) e ∙ cond-false (is_store a.kind && touches a.addr a.size b) (stored_byte stored a.addr b) (masks b) none)
 
-  pub other_past : (x : SecretMasks) (o : Option Access) (a : Access) → o ≡ Some a → is_store a.kind ≡ false → KnowsBytes x public masks → KnowsBytes x public (bytes_past public stored o masks)
+  pub other_past : (x : ByteMasks) (o : Option Access) (a : Access) → o ≡ Some a → is_store a.kind ≡ false → KnowsBytes x public masks → KnowsBytes x public (bytes_past public stored o masks)
   other_past x o a e none k = kept_past x o k (λ b h. at_some o a b e (ap (λ (s : Bool). s && touches a.addr a.size b) none))
 
-  pub sent_past : (x : SecretMasks) (o : Option Access) (a : Access) → o ≡ Some a → is_mapped a ≡ true → is_memory (region_of a.addr) ≡ false → KnowsBytes x public masks → KnowsBytes x public (bytes_past public stored o masks)
+  pub sent_past : (x : ByteMasks) (o : Option Access) (a : Access) → o ≡ Some a → is_mapped a ≡ true → is_memory (region_of a.addr) ≡ false → KnowsBytes x public masks → KnowsBytes x public (bytes_past public stored o masks)
   sent_past x o a e mapped none k =
       kept_past x o k (λ b h. at_some o a b e (ap (λ (t : Bool). is_store a.kind && t) (touches_no_byte a b mapped none h) ∙ and_false (is_store a.kind)))
     where
@@ -174,7 +174,7 @@ module _ (public : ℕ → Bool) (masks : ℕ → ℕ) (stored : ℕ) where
       by true is = sym (eqb-true sb 255 is)
       by false is = refl
 
-  pub stored_past : (x y : SecretMasks) (o : Option Access) (a : Access) → o ≡ Some a → is_store a.kind ≡ true → KnowsBytes x public masks → IsFull y → AreMasks y (stored_in_bytes public stored a.addr a.size (mask_at x))
+  pub stored_past : (x y : ByteMasks) (o : Option Access) (a : Access) → o ≡ Some a → is_store a.kind ≡ true → KnowsBytes x public masks → IsFull y → AreMasks y (stored_in_bytes public stored a.addr a.size (mask_at x))
       → KnowsBytes y public (bytes_past public stored o masks)
   stored_past x y o a e stores k full put = record {
     full = full;

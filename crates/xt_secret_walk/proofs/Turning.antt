@@ -4,17 +4,17 @@ use Rattle.xt_trace.specs.Calls.{is_stop}
 use Rattle.xt_trace.specs.Traces.{trace_over}
 use Rattle.xt_trace.specs.Worlds.{left_past}
 use Rattle.xt_trace.specs.declared.record.StepRecord.{StepRecord}
-use Rattle.xt_fetch.specs.Fetching.{fetch_at}
+use Rattle.xt_map.specs.Fetching.{fetch_at}
 use Rattle.xt_exec.specs.State.{State}
 use Rattle.xt_exec.specs.States.{file_state}
 use Rattle.xt_exec.specs.Turn.{turn}
 use Rattle.xt_exec.specs.Chips.{processor}
 use Rattle.xt_uses.specs.UseStep.{reply_mask}
-use Rattle.xt_secrets.specs.Knowledge.{Knowledge}
-use Rattle.xt_secrets.specs.TurnUses.{turn_used}
-use Rattle.xt_secrets.specs.Learning.{known_after, stored_mask}
-use Rattle.xt_secrets.specs.SecretBytes.{bytes_past}
-use Rattle.xt_secret_walk.specs.declared.bytes.SecretMasks.{SecretMasks}
+use Rattle.xt_simulation.specs.Knowledge.{Knowledge}
+use Rattle.xt_simulation.specs.TurnUses.{turn_used}
+use Rattle.xt_simulation.specs.Learning.{known_after, stored_mask}
+use Rattle.xt_simulation.specs.SecretBytes.{bytes_past}
+use Rattle.xt_use_walk.specs.declared.bytes.ByteMasks.{ByteMasks}
 use Rattle.xt_secret_walk.specs.declared.leak.FirstLeak.{FirstLeak}
 use Rattle.xt_secret_walk.specs.declared.seen.Seen.{Seen}
 use Rattle.xt_secret_walk.specs.declared.side.Side.{Side}
@@ -73,7 +73,7 @@ module _ (code : ℕ → ℕ) (old mid : Side) (masks : ℕ → ℕ) (rec : Step
     after : side_state mid ≡ (turn code s rec.reply).1
     after = ap (λ (x : StepRecord × State). x.1) made.state
 
-    pub goes_on : (public : ℕ → Bool) (new : Side) (b c : SecretMasks) → IsSide old → IsPassed public mid new b c rec seen reply → turn_uses rec.kind rec.access seen reply ≡ true → KnowsBytes b public masks
+    pub goes_on : (public : ℕ → Bool) (new : Side) (b c : ByteMasks) → IsSide old → IsPassed public mid new b c rec seen reply → turn_uses rec.kind rec.access seen reply ≡ true → KnowsBytes b public masks
         → IsPast code public old new c s m masks rec
     goes_on public new b c side p yes_used knows =
         let steps : new.steps ≡ old.steps + 1 = p.steps ∙ ap (λ (n : ℕ). n + 1) made.steps in

@@ -3,16 +3,16 @@ use Rattle.std.specs.Prelude.{◌≡◌, ℕ, ◌==◌, nat_lt, if◌then◌else
 use Rattle.std.specs.Prelude.{slice_get}
 use Rattle.xt_image.specs.declared.image.Image.{Image}
 use Rattle.xt_trace.specs.declared.run.Run.{Run}
-use Rattle.xt_fetch.specs.Fetching.{Fetched, Fetches, fetch_at}
+use Rattle.xt_map.specs.Fetching.{Fetched, Fetches, fetch_at}
 use Rattle.xt_rows.specs.Operands.{reads}
 use Rattle.xt_exec.specs.State.{State}
 use Rattle.xt_frames.specs.FirstBreach.{turn_of}
 use Rattle.xt_uses.specs.declared.lacking.Lack.{Lack}
 use Rattle.xt_uses.specs.Words.{all_bits}
-use Rattle.xt_secrets.specs.Knowledge.{Knowledge, register_word}
-use Rattle.xt_secrets.specs.SecretWorlds.{known_of}
-use Rattle.xt_secrets.specs.FirstLeak.{IsFirstLeak, Watched, carried_count, standing_before, state_of}
-use Rattle.xt_secrets.specs.WatchedRuns.{has_byte_at, watched_of}
+use Rattle.xt_simulation.specs.Knowledge.{Knowledge, register_word}
+use Rattle.xt_simulation.specs.SecretWorlds.{known_of}
+use Rattle.xt_simulation.specs.FirstLeak.{IsFirstLeak, Watched, carried_count, standing_before, state_of}
+use Rattle.xt_simulation.specs.WatchedRuns.{has_byte_at, watched_of}
 use Rattle.xt_secret_walk.specs.declared.leak.FirstLeak.{FirstLeak}
 use Rattle.xt_secret_walk.specs.declared.leak.Secrets.{Secrets}
 use Rattle.xt_secret_walk.specs.declared.leak.Secrets.TheVariants.{Whole, Leaks}

@@ -8,7 +8,7 @@ use Rattle.xt_map.specs.declared.access.Access.{Access}
 use Rattle.xt_trace.specs.declared.record.RegWrite.{RegWrite}
 use Rattle.xt_trace.specs.declared.record.StepKind.{StepKind}
 use Rattle.xt_trace.specs.declared.record.StepKind.TheVariants as kind
-use Rattle.xt_fetch.specs.Fetching.{Fetched, Fetches}
+use Rattle.xt_map.specs.Fetching.{Fetched, Fetches}
 use Rattle.xt_rows.specs.Kinds.{is_return}
 use Rattle.xt_rows.specs.Operands.{reads}
 use Rattle.xt_rows.specs.RowLaws.{IsShiftAmount}
@@ -19,10 +19,10 @@ use Rattle.xt_uses.specs.declared.discipline.Discipline.TheVariants.{Lenient}
 use Rattle.xt_uses.specs.declared.lacking.Lack.{Lack}
 use Rattle.xt_uses.specs.Words.{all_bits, is_whole}
 use Rattle.xt_uses.specs.Known.{result_mask}
-use Rattle.xt_secrets.specs.Knowledge.{Knowledge, first_special, first_word, register_word}
-use Rattle.xt_secrets.specs.Knowledge.{second_word}
-use Rattle.xt_secrets.specs.TurnUses.{found_used, row_used}
-use Rattle.xt_secrets.specs.Learning.{common_mask, doubtful}
+use Rattle.xt_simulation.specs.Knowledge.{Knowledge, first_special, first_word, register_word}
+use Rattle.xt_simulation.specs.Knowledge.{second_word}
+use Rattle.xt_simulation.specs.TurnUses.{found_used, row_used}
+use Rattle.xt_simulation.specs.Learning.{common_mask, doubtful}
 use Rattle.xt_secret_walk.specs.declared.masks.CoreMasks.{CoreMasks}
 use Rattle.xt_secret_walk.specs.declared.seen.MaskWrite.{MaskWrite}
 use Rattle.xt_secret_walk.specs.declared.seen.Seen.{Seen}

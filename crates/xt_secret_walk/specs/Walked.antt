@@ -14,17 +14,17 @@ use Rattle.xt_exec.specs.State.{State}
 use Rattle.xt_exec.specs.States.{file_state}
 use Rattle.xt_exec.specs.Turn.{turn}
 use Rattle.xt_core.specs.Runs.{entry_of, opening_at, turns_of}
-use Rattle.xt_fetch.specs.Fetching.{fetch_at}
+use Rattle.xt_map.specs.Fetching.{fetch_at}
 use Rattle.xt_frames.specs.FirstBreach.{Turn, records_of, turns}
 use Rattle.xt_uses.specs.UseStep.{reply_mask, step_insn}
-use Rattle.xt_secrets.specs.Knowledge.{Knowledge, all_known}
-use Rattle.xt_secrets.specs.TurnUses.{turn_used}
-use Rattle.xt_secrets.specs.Learning.{known_after, known_past, stored_in, stored_mask}
-use Rattle.xt_secrets.specs.SecretBytes.{bytes_past}
-use Rattle.xt_secrets.specs.FirstLeak.{Standing, Watched, carried_count, insn_carries}
-use Rattle.xt_secrets.specs.FirstLeak.{standing_before, stores_hidden, uses_at}
-use Rattle.xt_secrets.specs.WatchedRuns.{has_byte_at}
-use Rattle.xt_secret_walk.specs.declared.bytes.SecretMasks.{SecretMasks}
+use Rattle.xt_simulation.specs.Knowledge.{Knowledge, all_known}
+use Rattle.xt_simulation.specs.TurnUses.{turn_used}
+use Rattle.xt_simulation.specs.Learning.{known_after, known_past, stored_in, stored_mask}
+use Rattle.xt_simulation.specs.SecretBytes.{bytes_past}
+use Rattle.xt_simulation.specs.FirstLeak.{Standing, Watched, carried_count, insn_carries}
+use Rattle.xt_simulation.specs.FirstLeak.{standing_before, stores_hidden, uses_at}
+use Rattle.xt_simulation.specs.WatchedRuns.{has_byte_at}
+use Rattle.xt_use_walk.specs.declared.bytes.ByteMasks.{ByteMasks}
 use Rattle.xt_secret_walk.specs.declared.masks.CoreMasks.{CoreMasks}
 use Rattle.xt_secret_walk.specs.declared.seen.Seen.{Seen}
 use Rattle.xt_secret_walk.specs.declared.side.Side.{Side}
@@ -97,7 +97,7 @@ pub record IsWritten
 
 -- what is known after the turn of this record, before which the walk found this
 pub record IsPassed
-    (public : ℕ → Bool) (old new : Side) (b c : SecretMasks) (rec : StepRecord)
+    (public : ℕ → Bool) (old new : Side) (b c : ByteMasks) (rec : StepRecord)
     (seen : Option Seen) (reply : ℕ) : Type 0 where
   pub core_is : new.core ≡ old.core
   pub regs_are : new.regs ≡ old.regs
@@ -134,7 +134,7 @@ pub record IsOpenSide (image : Image) (run : Run) (core : ℕ) (w : Side) : Type
 -- its next turn, with this record, which uses known bits alone: the core stood in the state s, and m
 -- and `masks` were known
 pub record IsPast
-    (code : ℕ → ℕ) (public : ℕ → Bool) (old new : Side) (c : SecretMasks) (s : State)
+    (code : ℕ → ℕ) (public : ℕ → Bool) (old new : Side) (c : ByteMasks) (s : State)
     (m : Knowledge) (masks : ℕ → ℕ) (rec : StepRecord) : Type 0 where
   pub records : records_left code old ≡ rec ∷ records_left code new
   pub side : IsSide new
@@ -168,7 +168,7 @@ pub record IsLeaking
 
 -- what its next turn comes to; nothing has changed if it has none
 abbrev pub IsNext :
-    (ℕ → ℕ) → (ℕ → Bool) → Side → Side → SecretMasks → SecretMasks → State → Knowledge
+    (ℕ → ℕ) → (ℕ → Bool) → Side → Side → ByteMasks → ByteMasks → State → Knowledge
     → (ℕ → ℕ) → Option FirstLeak → Result Unit End → Type 0
 IsNext code public old new b c s m masks leak (Ok u) =
     (rec : StepRecord) × IsPast code public old new c s m masks rec

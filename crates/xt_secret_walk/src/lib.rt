@@ -8,10 +8,12 @@ pub mod laws;
 mod leak;
 mod making;
 mod masks;
-mod replies;
 mod seen;
 mod side;
 mod walk;
 
+pub use file::WatchedFile;
 pub use judging::judge_secrets;
 pub use leak::{FirstLeak, Secrets};
+pub use masks::CoreMasks;
+pub use seen::{Seen, turn_uses};

@@ -4,24 +4,21 @@
 ghost use Rattle.std.specs.Prelude.{◌≡◌};
 ghost use Rattle.xt_map.specs.Memory.{constant_byte};
 ghost use Rattle.xt_trace.specs.Traces.{replies_past, reply_for};
-ghost use Rattle.xt_fetch.specs.Fetching.{fetch_at};
-ghost use Rattle.xt_exec.specs.Halves.{IsPlan, at_end};
+ghost use Rattle.xt_map.specs.Fetching.{fetch_at};
+ghost use Rattle.xt_exec.specs.Halves.{IsPlan};
 ghost use Rattle.xt_exec.specs.States.{file_state};
 ghost use Rattle.xt_exec.specs.Turn.{demand, fetched_turn, planned_turn, turn};
-ghost use Rattle.xt_core.specs.Turns.{IsBegun};
 ghost use Rattle.xt_secret_walk.specs.SeenWords.{IsGoodSeen, knowledge_of, seen_of};
 
 use crate::file::WatchedFile;
 use crate::masks::CoreMasks;
-use crate::replies::Replies;
 use crate::seen::Seen;
 use xt_codec::{Fetch, instruction_at};
-use xt_core::{StartedTurn, end_turn};
+use xt_core::{Replies, StartedTurn, end_turn, head_of, started};
 use xt_exec::plans::{Effect, Plan};
 use xt_exec::{Regs, plan};
 use xt_map::Constants;
 use xt_rows::cause;
-use xt_special::number;
 use xt_trace::{StepKind, StepRecord};
 
 /// What the next turn finds, if it is not an instruction that is executed.
@@ -108,51 +105,6 @@ fn start(
     }
 }
 
-/// The end of a turn.
-#[inline(always)]
-fn tick(regs: &mut Regs<WatchedFile>)
-    ensures { file_state regs.new ≡ at_end (file_state regs.old) }
-{
-    xt_special::timers::tick(&mut regs.sr);
-}
-
-/// The first half of a turn, and what it finds. A turn that makes no access is whole.
-#[inline(always)]
-fn begin(
-    regs: &mut Regs<WatchedFile>,
-    masks: &CoreMasks,
-    code: &Constants,
-    found: &mut Option<Seen>,
-) -> StartedTurn
-    ensures begun { IsBegun result (constant_byte code.now) (file_state regs.old) (file_state regs.new) }
-    ensures seen { let s = file_state regs.old in
-        found.new ≡ seen_of (fetch_at (constant_byte code.now) s.control.pc) (knowledge_of masks.now) s }
-    ensures good { IsGoodSeen found.new }
-{
-    let pc = regs.pc;
-    let ccount = regs.sr.register(number::CCOUNT);
-    let owb = regs.sr.owb();
-    let interrupt = regs.sr.register(number::INTERRUPT);
-    let plan = start(regs, masks, code, found);
-    match plan {
-        Plan::Done(effect) => {
-            tick(regs);
-            let record = StepRecord {
-                pc,
-                kind: effect.kind,
-                write: effect.write,
-                access: None,
-                reply: 0,
-                ccount,
-                owb,
-                interrupt,
-            };
-            StartedTurn::Local(record)
-        }
-        Plan::Bus(_, pending) => StartedTurn::Asks(pending),
-    }
-}
-
 /// One turn of a core with the reply that is left for it: its record, and what it finds.
 pub fn next_turn(
     regs: &mut Regs<WatchedFile>,
@@ -169,8 +121,9 @@ pub fn next_turn(
         found.new ≡ seen_of (fetch_at (constant_byte code.now) s.control.pc) (knowledge_of masks.now) s }
     ensures good { IsGoodSeen found.new }
 {
-    let started = begin(regs, masks, code, found);
-    match started {
+    let head = head_of(regs);
+    let plan = start(regs, masks, code, found);
+    match started(regs, head, plan) {
         StartedTurn::Local(record) => record,
         StartedTurn::Asks(pending) => {
             let reply = replies.next();

@@ -13,9 +13,9 @@ ghost use Rattle.xt_uses.specs.declared.discipline.Discipline.TheVariants.{Lenie
 ghost use Rattle.xt_uses.specs.Known.{result_mask};
 ghost use Rattle.xt_uses.specs.UseLaws.{pointer_mask};
 ghost use Rattle.xt_uses.specs.Words.{all_bits};
-ghost use Rattle.xt_secrets.specs.Knowledge.{all_known, first_special, register_word};
-ghost use Rattle.xt_secrets.specs.Learning.{doubtful, known_past, special_given, with_mask};
-ghost use Rattle.xt_secrets.specs.FirstLeak.{insn_carries};
+ghost use Rattle.xt_simulation.specs.Knowledge.{all_known, first_special, register_word};
+ghost use Rattle.xt_simulation.specs.Learning.{doubtful, known_past, special_given, with_mask};
+ghost use Rattle.xt_simulation.specs.FirstLeak.{insn_carries};
 ghost use Rattle.xt_secret_walk.specs.SeenWords.{IsGood, doubt_of, knowledge_of, masked_write, seen_in, special_mask};
 
 use crate::file::WatchedFile;

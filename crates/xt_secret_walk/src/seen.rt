@@ -5,8 +5,8 @@ ghost use Rattle.std.specs.Prelude.{◌≡◌, true};
 ghost use Rattle.xt_isa.specs.Ranges.{in_range};
 ghost use Rattle.xt_rows.specs.RowLaws.{IsRegister};
 ghost use Rattle.xt_uses.specs.Words.{is_whole};
-ghost use Rattle.xt_secrets.specs.Learning.{common_mask, doubtful};
-ghost use Rattle.xt_secrets.specs.TurnUses.{found_used, row_used};
+ghost use Rattle.xt_simulation.specs.Learning.{common_mask, doubtful};
+ghost use Rattle.xt_simulation.specs.TurnUses.{found_used, row_used};
 ghost use Rattle.xt_secret_walk.specs.SeenWords.{insn_uses, seen_lacks, turn_uses, word_lacks, words_lack};
 
 use xt_frames::is_return;
@@ -48,7 +48,7 @@ fn is_whole(w: Word) -> bool
 
 /// Whether an instruction uses known bits alone, where x and y are the words of the registers that
 /// it reads.
-#[tactic(auto, unfolding(xt_secrets::specs::TurnUses::row_used))]
+#[tactic(auto, unfolding(xt_simulation::specs::TurnUses::row_used))]
 fn row_used(insn: Insn, x: Word, y: Word) -> bool
     ensures { result ≡ row_used insn x y }
 {
@@ -73,7 +73,7 @@ fn is_row_known(insn: Insn, x: Word, y: Word) -> bool
 }
 
 /// The register of a conditional move whose condition, the word y, is not known.
-#[tactic(auto, unfolding(xt_secrets::specs::Learning::doubtful, xt_uses::specs::Used::used_are_known, xt_isa::specs::Ranges::three_registers))]
+#[tactic(auto, unfolding(xt_simulation::specs::Learning::doubtful, xt_uses::specs::Used::used_are_known, xt_isa::specs::Ranges::three_registers))]
 pub fn doubtful(insn: Insn, y: Word) -> Option<u8>
     requires { in_range insn ≡ true }
     ensures value { result ≡ doubtful insn y }

@@ -4,25 +4,26 @@
 ghost use Rattle.std.specs.Prelude.{◌≡◌, ◌≤◌, ◌<◌, ◌+◌, ◌^◌, ℕ, IfSome, true};
 ghost use Rattle.xt_map.specs.Memory.{constant_byte};
 ghost use Rattle.xt_map.specs.Regions.{is_mapped};
-ghost use Rattle.xt_trace.specs.Worlds.{left_past};
-ghost use Rattle.xt_fetch.specs.Fetching.{fetch_at};
+ghost use Rattle.xt_map.specs.Fetching.{fetch_at};
 ghost use Rattle.xt_core.specs.Runs.{IsRunOf};
-ghost use Rattle.xt_secrets.specs.WatchedRuns.{has_byte_at};
-ghost use Rattle.xt_secret_walk.specs.KnownBytes.{IsFull, KnowsBytes};
+ghost use Rattle.xt_simulation.specs.WatchedRuns.{has_byte_at};
+ghost use Rattle.xt_use_walk.specs.MaskedBytes.{IsFull};
+ghost use Rattle.xt_secret_walk.specs.KnownBytes.{KnowsBytes};
 ghost use Rattle.xt_secret_walk.specs.SeenWords.{IsGoodSeen, executed_in, seen_of, stored_of};
 ghost use Rattle.xt_secret_walk.specs.Walked.{IsMade, IsNext, IsOpenSide, IsPassed, IsSide, IsWritten, count_of, side_known, side_state};
 
-use crate::bytes::{SecretMasks, is_either};
+use crate::bytes::{is_either, store};
 use crate::file::WatchedFile;
 use crate::leak::{End, FirstLeak};
 use crate::making::next_turn;
 use crate::masks::CoreMasks;
-use crate::replies::Replies;
 use crate::seen::{Seen, seen_lacks, turn_uses};
+use xt_core::{Replies, left_past};
 use xt_exec::Regs;
 use xt_image::Image;
 use xt_map::Constants;
 use xt_trace::{Run, StepKind, StepRecord};
+use xt_use_walk::ByteMasks;
 use xt_uses::ALL_BITS;
 use xt_window::Windows;
 
@@ -40,17 +41,6 @@ pub struct Side<'a> {
     pub steps: u32,
     /// How many of them have left a register or a byte with a bit that is not known.
     pub carried: u32,
-}
-
-/// The turns that are left after one with this record: none after a BREAK.
-#[inline(always)]
-fn left_past(rec: &StepRecord, left: u32) -> u32
-    ensures { result ≡ left_past rec.now left }
-{
-    match rec.kind {
-        StepKind::Stop => 0,
-        _ => left,
-    }
 }
 
 /// How many turns more carry what is not known.
@@ -119,7 +109,7 @@ impl<'a> Side<'a> {
         ensures good { IsGoodSeen found.new }
     {
         let rec = next_turn(&mut self.regs, &self.masks, code, &mut self.replies, found);
-        self.left = left_past(&rec, self.left - 1);
+        self.left = left_past(rec, self.left - 1);
         rec
     }
 
@@ -130,7 +120,7 @@ impl<'a> Side<'a> {
         &mut self,
         code: &Constants,
         public: &[(u32, u32)],
-        bytes: &mut SecretMasks,
+        bytes: &mut ByteMasks,
         leak: &mut Option<FirstLeak>,
     ) -> Result<(), End>
         requires side { IsSide self.old }
@@ -163,7 +153,7 @@ impl<'a> Side<'a> {
     fn pass(
         &mut self,
         public: &[(u32, u32)],
-        bytes: &mut SecretMasks,
+        bytes: &mut ByteMasks,
         rec: &StepRecord,
         seen: &Option<Seen>,
         reply: u32,
@@ -176,7 +166,7 @@ impl<'a> Side<'a> {
         ensures { IsPassed (has_byte_at public.now) self.old self.new bytes.old bytes.new rec.now seen.now reply }
     {
         let written = self.write(rec, seen, reply);
-        let hides = bytes.store(public, rec.access, stored_by(rec.kind, seen));
+        let hides = store(bytes, public, rec.access, stored_by(rec.kind, seen));
         self.carried += count_of(is_either(written, hides));
         self.steps += 1;
     }

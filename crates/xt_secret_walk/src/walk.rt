@@ -7,12 +7,12 @@ ghost use Rattle.xt_map.specs.Placing.{IsPlaced};
 ghost use Rattle.xt_trace.specs.Scheduled.{HasSchedule};
 ghost use Rattle.xt_trace.specs.Schedule.{schedule_in};
 ghost use Rattle.xt_core.specs.Runs.{IsRunOf};
-ghost use Rattle.xt_secrets.specs.FirstLeak.{Watched};
-ghost use Rattle.xt_secrets.specs.WatchedRuns.{has_byte_at, watched_of};
+ghost use Rattle.xt_simulation.specs.FirstLeak.{Watched};
+ghost use Rattle.xt_simulation.specs.WatchedRuns.{has_byte_at, watched_of};
 ghost use Rattle.xt_secret_walk.specs.Answers.{IsSaidOf};
 ghost use Rattle.xt_secret_walk.specs.Walked.{IsFollowed, IsOn, IsTurned};
 
-use crate::bytes::SecretMasks;
+use crate::bytes::open_masks;
 use crate::leak::{End, FirstLeak, Secrets};
 use crate::side::Side;
 use std::alloc::{AllocError, Global};
@@ -20,17 +20,31 @@ use xt_discipline::ScheduleIter;
 use xt_image::Image;
 use xt_map::Constants;
 use xt_trace::Run;
+use xt_use_walk::ByteMasks;
 
 /// The walk so far: both cores past the turns that were made, and what is known of memory.
-#[derive(Drop)]
 pub struct Walk<'a> {
     pub code: Constants<'a>,
     pub public: &'a [(u32, u32)],
     pub side0: Side<'a>,
     pub side1: Side<'a>,
-    pub bytes: SecretMasks,
+    pub bytes: ByteMasks,
     /// The first leak, once it is found.
     pub leak: Option<FirstLeak>,
+}
+
+// A `drop` of its own is one call at each place where a value is dropped.
+impl Drop for Walk<'_> {
+    fn drop(self) {
+        let Walk {
+            code: _,
+            public: _,
+            side0: _,
+            side1: _,
+            bytes: _,
+            leak: _,
+        } = self;
+    }
 }
 
 impl<'a> Walk<'a> {
@@ -47,7 +61,7 @@ impl<'a> Walk<'a> {
         ensures { IfOk result (λ w. IsOn (watched_of image.now run.now (has_byte_at secret.now) (has_byte_at public.now)) w (schedule_in run.now) 0) }
     {
         let code = Constants::make(alloc, image.segments.as_slice())?;
-        let bytes = SecretMasks::open(alloc, secret, public)?;
+        let bytes = open_masks(alloc, secret, public)?;
         let side0 = Side::open(image, run, 0);
         let side1 = Side::open(image, run, 1);
         Ok(Walk {

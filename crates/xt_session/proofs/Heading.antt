@@ -12,9 +12,9 @@ use Rattle.xt_record.specs.Fields.{image_in}
 use Rattle.xt_record.specs.Format.{run_in}
 use Rattle.xt_record.specs.declared.fault.RecordFault.TheVariants as record_fault
 use Rattle.xt_command_line.specs.declared.beyond.Beyond.{Beyond}
-use Rattle.xt_status.specs.declared.status.Status.{Status}
-use Rattle.xt_status.specs.declared.status.Status.TheVariants as status
-use Rattle.xt_status.specs.Inputs.{recording_refusal}
+use Rattle.xt_report.specs.declared.status.Status.{Status}
+use Rattle.xt_report.specs.declared.status.Status.TheVariants as status
+use Rattle.xt_report.specs.Inputs.{recording_refusal}
 use Rattle.xt_session.specs.Calls.{Tells}
 use Rattle.xt_session.specs.Reads.{IsInLine, IsRefused, IsShort, Misses, Opens, ReadsCount, ReadsLine, status_of}
 use Rattle.xt_session.specs.Session.{answers, count_in, is_newline, lines_by, lines_in, lines_limit, number_in, recording_limit, refusal_by, refusal_of, session_text, text_by}

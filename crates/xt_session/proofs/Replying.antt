@@ -16,13 +16,13 @@ use Rattle.xt_record.specs.declared.fault.RecordFault.{RecordFault}
 use Rattle.xt_record.specs.declared.fault.RecordFault.TheVariants as record_fault
 use Rattle.std.specs.Option.{option_map}
 use Rattle.xt_command_line.specs.declared.beyond.Beyond.{Beyond}
-use Rattle.xt_status.specs.declared.status.Status.{Status}
-use Rattle.xt_status.specs.declared.status.Status.TheVariants as status
-use Rattle.xt_status.specs.Calls.{Ends}
-use Rattle.xt_status.specs.Inputs.{recording_refusal}
-use Rattle.xt_status.specs.Statuses.{status_after}
-use Rattle.xt_status.specs.Writes.{Writes}
-use Rattle.xt_status.proofs.Writing.{prefix_of, refused_there}
+use Rattle.xt_report.specs.declared.status.Status.{Status}
+use Rattle.xt_report.specs.declared.status.Status.TheVariants as status
+use Rattle.xt_report.specs.Calls.{Ends}
+use Rattle.xt_report.specs.Inputs.{recording_refusal}
+use Rattle.xt_report.specs.Statuses.{status_after}
+use Rattle.xt_report.specs.Writes.{Writes}
+use Rattle.xt_report.proofs.Writing.{prefix_of, refused_there}
 use Rattle.xt_session.specs.Calls.{Begins, Refuses, Sessions}
 use Rattle.xt_session.specs.Reads.{EndsLines, IsInLine, IsShort, Misses, Opens, ReadsLine, status_of}
 use Rattle.xt_session.specs.Session.{answer, answers, lines_in, lines_limit, refusal_of, session_text}

@@ -7,9 +7,9 @@ use Rattle.std.specs.Io.KnownBytes.{Appends, Consumes, IsAtEnd, Keeps}
 use Rattle.xt_io.specs.Causes.{Rose}
 use Rattle.xt_io.specs.Whole.{AppendsPrefix}
 use Rattle.xt_command_line.specs.declared.beyond.Beyond.{Beyond}
-use Rattle.xt_status.specs.declared.status.Status.{Status}
-use Rattle.xt_status.specs.declared.status.Status.TheVariants as status
-use Rattle.xt_status.specs.Calls.{Ends}
+use Rattle.xt_report.specs.declared.status.Status.{Status}
+use Rattle.xt_report.specs.declared.status.Status.TheVariants as status
+use Rattle.xt_report.specs.Calls.{Ends}
 use Rattle.xt_session.specs.Session.{lines_in, lines_limit, refusal_of, session_text}
 
 -- the source tells these bytes, or it tells nothing

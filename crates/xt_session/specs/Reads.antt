@@ -10,9 +10,9 @@ use Rattle.xt_trace.specs.declared.run.Run.{Run}
 use Rattle.xt_image.specs.declared.image.Image.{Image}
 use Rattle.xt_record.specs.declared.fault.RecordFault.TheVariants as record_fault
 use Rattle.xt_command_line.specs.declared.beyond.Beyond.{Beyond}
-use Rattle.xt_status.specs.Calls.{Ends}
-use Rattle.xt_status.specs.declared.status.Status.{Status}
-use Rattle.xt_status.specs.declared.status.Status.TheVariants as status
+use Rattle.xt_report.specs.Calls.{Ends}
+use Rattle.xt_report.specs.declared.status.Status.{Status}
+use Rattle.xt_report.specs.declared.status.Status.TheVariants as status
 use Rattle.xt_session.specs.Calls.{Answers, AnswersSome, Begins, IsTooLong, Tells}
 use Rattle.xt_session.specs.Session.{answers, is_newline, lines_in, lines_limit, number_in}
 use Rattle.xt_session.specs.Session.{recording_limit, refusal_of}

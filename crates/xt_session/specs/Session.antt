@@ -16,9 +16,9 @@ use Rattle.xt_command_line.specs.declared.beyond.Beyond.{Beyond}
 use Rattle.xt_debug.specs.declared.script.Command.{Command}
 use Rattle.xt_debug.specs.Grammar.{script_of}
 use Rattle.xt_debug.specs.Scripts.{script_outcome}
-use Rattle.xt_status.specs.declared.status.Status.{Status}
-use Rattle.xt_status.specs.declared.status.Status.TheVariants as status
-use Rattle.xt_status.specs.Inputs.{recording_refusal}
+use Rattle.xt_report.specs.declared.status.Status.{Status}
+use Rattle.xt_report.specs.declared.status.Status.TheVariants as status
+use Rattle.xt_report.specs.Inputs.{recording_refusal}
 
 abbrev pub is_newline : ℕ → Bool
 is_newline byte = byte == 10

@@ -3,8 +3,8 @@ ghost use Rattle.std.specs.Prelude.{◌≡◌, ◌≤◌, All, IfOk, IfErr, IfSo
 ghost use Rattle.xt_debug.specs.Grammar.{IsInRange};
 ghost use Rattle.xt_session.specs.Reads.{EndsLines, status_of};
 ghost use Rattle.xt_session.specs.Session.{answer, printed, script_in};
-ghost use Rattle.xt_status.specs.Calls.{ends};
-ghost use Rattle.xt_status.specs.Writes.{Writes};
+ghost use Rattle.xt_report.specs.Calls.{ends};
+ghost use Rattle.xt_report.specs.Writes.{Writes};
 
 use crate::lines::{LINES_LIMIT, read_line};
 use std::alloc::Global;
@@ -13,7 +13,7 @@ use xt_command_line::Beyond;
 use xt_debug::{Debugger, Script, ScriptFault, parse_script};
 use xt_io::{ReadError, Refused, Sink, Source};
 use xt_map::Text;
-use xt_status::{Status, status_after, write_text};
+use xt_report::{Status, status_after, write_text};
 
 // The script that a line is, None if it is none. The only error is running out of memory.
 #[tactic(auto, unfolding(crate::specs::Session::script_in))]

@@ -1,6 +1,6 @@
 //! A session over a recording.
 ghost use Rattle.xt_session.specs.Calls.{Sessions};
-ghost use Rattle.xt_status.specs.Calls.{ends};
+ghost use Rattle.xt_report.specs.Calls.{ends};
 
 use crate::answering::answer_lines;
 use crate::opening::read_opening;
@@ -9,7 +9,7 @@ use xt_command_line::Beyond;
 use xt_debug::Debugger;
 use xt_image::well_formed_is_placed;
 use xt_io::{Sink, Source};
-use xt_status::{Status, recording_in};
+use xt_report::{Status, recording_in};
 
 /// Answers scripts over one recording: the source has a line with the number of bytes of the recording, the recording,
 /// and then lines, each a script.

@@ -10,7 +10,7 @@ use std::str;
 use xt_command_line::number;
 use xt_io::Source;
 use xt_record::RecordFault;
-use xt_status::{RECORDING_LIMIT, Status};
+use xt_report::{RECORDING_LIMIT, Status};
 
 // The number that a line says.
 #[tactic(auto, unfolding(crate::specs::Session::number_in))]

@@ -4,7 +4,7 @@ pub mod Counts
 pub mod InStep
 pub mod Stepping
 mod Whole
-mod Turning
+pub mod Turning
 mod Walking
 pub mod Opened
 pub mod Making

@@ -1,12 +1,11 @@
 -- A core after a record that was judged as a whole.
-use Rattle.std.proofs.Common.{◌≡◌, ℕ, Bool, false, cond, Result, Ok, Err, List, refl, sym, ◌∙◌, ap, subst}
+use Rattle.std.proofs.Common.{◌≡◌, ℕ, Bool, false, Result, Ok, Err, List, refl, sym, ◌∙◌, ap, subst}
 use Rattle.std.proofs.lemmas.Bool.{true≢false}
 use Rattle.xt_trace.specs.declared.record.StepRecord.{StepRecord}
 use Rattle.xt_frames.specs.declared.kinds.Breach.{Breach}
 use Rattle.xt_frames.specs.declared.kinds.HandlerPhase.{HandlerPhase}
 use Rattle.xt_frames.specs.declared.kinds.HandlerPhase.TheVariants.{Outside, InHandler, Nested}
 use Rattle.xt_frames.specs.declared.kinds.Judged.TheVariants.{Broken}
-use Rattle.xt_frames.specs.HandlerSteps.{is_window, phase_after}
 use Rattle.xt_frames.specs.Breaches.{Bounds}
 use Rattle.xt_frames.specs.Judging.{Seen, Handled, Judges, Breaks, seen_record}
 use Rattle.xt_discipline.specs.declared.bytes.Held.{Held}
@@ -24,11 +23,6 @@ is_nested _ = ⊥
 
 pub other_phase : (p q : HandlerPhase) → p ≡ q → (is_nested q → ⊥) → p ≡ Nested → ⊥
 other_phase p q e off nested = off (subst is_nested (sym nested ∙ e) tt)
-
--- outside handler steps a record that begins none leaves the phase
-pub phase_stays : (code : ℕ → ℕ) (p : HandlerPhase) (rec : StepRecord) → p ≡ Outside → is_window rec.kind ≡ false → p ≡ phase_after code p rec
-phase_stays code p rec outside plain =
-    outside ∙ sym (ap (λ (q : HandlerPhase). phase_after code q rec) outside ∙ ap (λ (b : Bool). cond b InHandler Outside) plain)
 
 -- what is left of a core past a record
 pub record IsLeft (old new : Side) : Type 0 where

@@ -13,18 +13,20 @@ use Rattle.xt_frames.specs.declared.kinds.HandlerPhase.TheVariants.{Outside, InH
 use Rattle.xt_frames.specs.Frames.{all_set, seen_after_write}
 use Rattle.xt_frames.specs.HandlerSteps.{is_window, phase_after}
 use Rattle.xt_frames.specs.Breaches.{is_sp, loads_stale, stores_at, touches_save_area}
-use Rattle.xt_frames.specs.Judging.{seen_record, seen_judged}
+use Rattle.xt_frames.specs.Judging.{seen_record}
 use Rattle.xt_frames.specs.Stacks.{Moves, Stack, Stays}
 use Rattle.xt_frames.specs.Walked.{Walked, found_in, fresh_before, walked_past}
 use Rattle.xt_frames.proofs.Shown.{KeepsSp, sp_kept, sp_written}
 use Rattle.xt_frames.proofs.StackSteps.{write_stack}
+use Rattle.xt_discipline.specs.declared.roles.Role.TheVariants.{Own}
+use Rattle.xt_discipline.specs.Phases.{role_of}
 use Rattle.xt_discipline.specs.declared.bytes.Held.{Held}
 use Rattle.xt_discipline.specs.declared.bytes.Change.TheVariants.{Stored}
 use Rattle.xt_discipline.specs.declared.side.Side.{Side}
 use Rattle.xt_discipline.specs.ByteMarks.{AreChanged, Agrees, KnowsOf, either}
 use Rattle.xt_discipline.specs.Sides.{IsSeen, IsSide, live_in, standing_of}
 use Rattle.xt_discipline.proofs.Known.{loads_for, saves_for}
-use Rattle.xt_discipline.proofs.Seeing.{at_last, followed_still, judged_marks, judged_past, le_same, plain_judged, step_seen}
+use Rattle.xt_discipline.proofs.Seeing.{at_last, followed_still, judged_marks, judged_past, le_same, role_seen}
 use Rattle.xt_shadow.specs.InStep.{IsReady}
 use Rattle.xt_frames.specs.Levels.{levelled}
 use Rattle.xt_shadow.proofs.InStep.{judged}
@@ -89,6 +91,5 @@ module _ (code : ℕ → ℕ) (side : Side) (seen : List (Option ℕ)) (vecbase 
         let w = walked (either (live_in before.frames) others) stale a b in
         let followed = followed_still before.core before.hi before.frames.state after.frames.state moves n refl in
         let marks = judged_marks before after.frames moves m n n others stale rec.access before_side refl len stack (write_stack stack rec.write free) known stored followed in
-        step_seen before after n others stale (seen_record code before.frames.bounds (standing_of before) others stale rec) (seen_judged code before.frames.bounds (standing_of before) others stale false rec) (Ok u)
-        (plain_judged before others stale code rec outside (ap (λ (x : StepKind). is_window x) insn))
+        role_seen before after n others stale code rec Own (Ok u) (sym (ap (λ (p : HandlerPhase). role_of p rec.kind) outside ∙ ap (λ (x : StepKind). role_of Outside x) insn))
         (judged_past before after after.frames n others stale code rec (found_in before.frames code (either (live_in before.frames) others) stale side.steps false rec) u false side.phase phase_is before_side w.0 w.1 refl marks)

@@ -1,5 +1,5 @@
 -- The next turn of a core.
-use Rattle.std.proofs.Common.{◌≡◌, ℕ, ◌+◌, ◌<◌, ◌^◌, Bool, true, false, Option, None, Result, Ok, Err, List, [], length, refl, sym, ◌∙◌, ap, subst, get_or}
+use Rattle.std.proofs.Common.{◌≡◌, ℕ, ◌+◌, ◌<◌, ◌^◌, Bool, true, false, Option, None, Result, Ok, Err, List, [], length, refl, sym, ◌∙◌, ap, subst, get_or, ◌≤◌, arith}
 use Rattle.std.proofs.lemmas.Bool.{cond-false, cond-true, true≢false}
 use Rattle.std.proofs.lemmas.List.{length-set}
 use Rattle.xt_special.specs.Control.{special_of}
@@ -21,7 +21,7 @@ use Rattle.xt_discipline.specs.declared.side.Side.{Side}
 use Rattle.xt_discipline.specs.ByteMarks.{KnowsOf}
 use Rattle.xt_discipline.specs.Sides.{IsSeen, IsSide, live_in, standing_of}
 use Rattle.xt_discipline.specs.Walks.{Turns}
-use Rattle.xt_discipline.proofs.Seeing.{le_more, le_same}
+use Rattle.xt_discipline.proofs.Seeing.{le_same}
 use Rattle.xt_shadow.specs.declared.cores.ShadowCore.{ShadowCore}
 use Rattle.xt_shadow.specs.declared.cores.End.{End}
 use Rattle.xt_shadow.specs.declared.cores.End.TheVariants.{Is, Lost}
@@ -29,6 +29,9 @@ use Rattle.xt_shadow.specs.InStep.{IsPlain}
 use Rattle.xt_shadow.specs.Shadows.{IsCore, IsLevelled, IsMade, IsPassed, IsPassedOn, IsSeenBy, IsTurned, core_state, in_step, records_left, shown}
 use Rattle.xt_shadow.proofs.Counts.{turn_count}
 use Rattle.xt_shadow.proofs.Stepping.{seen_in_step, side_at, sp_same}
+
+pub le_more : (a b : ℕ) → a ≤ b → a ≤ b + 1
+le_more a b h = omega arith
 
 pub shown_level : (c : ShadowCore) → c.level ≡ true → shown c ≡ in_step c
 shown_level c e = cond-true c.level (in_step c) c.side e

@@ -6,31 +6,26 @@ ghost use Rattle.xt_isa.specs.declared.Insn.{Insn};
 ghost use Rattle.xt_map.specs.Memory.{constant_byte};
 ghost use Rattle.xt_rows.specs.RowLaws.{IsRegister};
 ghost use Rattle.xt_core.specs.Runs.{IsRunOf};
-ghost use Rattle.xt_core.specs.Turns.{IsBegun};
-ghost use Rattle.xt_fetch.specs.Fetching.{fetch_at};
+ghost use Rattle.xt_map.specs.Fetching.{fetch_at};
 ghost use Rattle.xt_special.specs.Interrupts.{pending_of};
 ghost use Rattle.xt_trace.specs.Traces.{replies_past, reply_for};
-ghost use Rattle.xt_trace.specs.Worlds.{left_past};
-ghost use Rattle.xt_exec.specs.Halves.{IsPlan, at_end};
-ghost use Rattle.xt_exec.specs.States.{file_state};
+ghost use Rattle.xt_exec.specs.Halves.{IsPlan};
 ghost use Rattle.xt_exec.specs.Turn.{demand, fetched_turn, planned_turn, turn};
 ghost use Rattle.xt_discipline.specs.ByteMarks.{KnowsOf};
 ghost use Rattle.xt_discipline.specs.Sides.{live_in, standing_of};
 ghost use Rattle.xt_frames.specs.declared.kinds.HandlerPhase.TheVariants.{Outside};
 ghost use Rattle.xt_frames.specs.Judging.{seen_record};
-ghost use Rattle.xt_shadow.specs.InStep.{AgreesAt};
 ghost use Rattle.xt_shadow.specs.Lookups.{IsTested};
 ghost use Rattle.xt_shadow.specs.Shadows.{IsCore, IsMade, IsOpenedCore, IsPassed, IsReadyFor, IsSeenBy, IsStarted, IsTurned, core_state, records_left, settled, shown};
 
 use crate::file::ShadowFile;
-use crate::instructions::{is_executed, is_in_vectors, is_sp};
+use crate::instructions::{agrees, is_executed, is_in_vectors, is_sp};
 use crate::lookups::{Lookup, Lookups};
 use crate::quiet::passes;
-use crate::replies::Replies;
 use crate::seeing::see;
 use std::alloc::{AllocError, Global};
 use xt_codec::Fetch;
-use xt_core::{StartedTurn, end_turn};
+use xt_core::{Replies, StartedTurn, end_turn, head_of, left_past, started};
 use xt_discipline::{Held, Side};
 use xt_exec::plans::{Effect, Plan};
 use xt_exec::{Regs, plan};
@@ -38,7 +33,6 @@ use xt_frames::{Frames, HandlerPhase, Judged};
 use xt_image::Image;
 use xt_map::Constants;
 use xt_rows::cause;
-use xt_special::number;
 use xt_trace::{Run, StepKind, StepRecord};
 use xt_window::Windows;
 
@@ -74,25 +68,6 @@ pub struct ShadowCore<'a> {
     /// Whether one of the next three windows may be a frame's. In step no turn moves a window, so
     /// this stays.
     pub near: bool,
-}
-
-/// The turns that are left after one with this record: none after a BREAK.
-#[inline(always)]
-fn left_past(rec: &StepRecord, left: u32) -> u32
-    ensures { result ≡ left_past rec.now left }
-{
-    match rec.kind {
-        StepKind::Stop => 0,
-        _ => left,
-    }
-}
-
-/// The end of a turn.
-#[inline(always)]
-fn tick(regs: &mut Regs<ShadowFile>)
-    ensures { file_state regs.new ≡ at_end (file_state regs.old) }
-{
-    xt_special::timers::tick(&mut regs.sr);
 }
 
 impl<'a> ShadowCore<'a> {
@@ -153,31 +128,6 @@ impl<'a> ShadowCore<'a> {
         }
     }
 
-    /// Whether the register, if there is one, has a value in the newest frame, and that is the
-    /// processor's.
-    #[inline(always)]
-    fn agrees(&self, register: Option<u8>) -> bool
-        requires { IsRegister register }
-        ensures { result ≡ true → AgreesAt self.now.seen (core_state self.now) register }
-    {
-        match register {
-            Some(number) => match self.seen[number as usize] {
-                Some(value) => value == self.regs.win.read(number),
-                None => false,
-            },
-            None => true,
-        }
-    }
-
-    /// Whether no window is in the way of an instruction whose registers lie up to so many windows
-    /// ahead.
-    #[inline(always)]
-    fn is_clear(&self, ahead: u8) -> bool
-        requires { ahead < 4 }
-    {
-        !self.near || self.regs.win.check(ahead).is_none()
-    }
-
     /// Whether the instruction that was found at PC can be made in step.
     #[inline(always)]
     fn is_ready(&self, found: &Lookup) -> bool
@@ -191,9 +141,9 @@ impl<'a> ShadowCore<'a> {
             && !self.regs.sr.excm()
             && self.regs.sr.vecbase() == self.vecbase
             && !is_in_vectors(self.vecbase, self.regs.pc)
-            && self.agrees(found.first)
-            && self.agrees(found.second)
-            && self.is_clear(found.ahead)
+            && agrees(&self.seen, &self.regs, found.first)
+            && agrees(&self.seen, &self.regs, found.second)
+            && (!self.near || self.regs.win.check(found.ahead).is_none())
     }
 
     /// The instruction at the program counter.
@@ -258,39 +208,6 @@ impl<'a> ShadowCore<'a> {
         }
     }
 
-    /// The first half of the next turn. A turn that makes no access is whole.
-    #[inline(always)]
-    fn begin(&mut self, lookups: &mut Lookups) -> StartedTurn
-        requires inside { IsCore self.old }
-        ensures begun { IsBegun result (constant_byte lookups.old) (core_state self.old) (core_state self.new) }
-        ensures owb { (core_state self.old).control.ps.owb < 16 }
-        ensures started { IsStarted (constant_byte lookups.old) self.old self.new }
-        ensures replies { self.new.replies ≡ self.old.replies }
-        ensures code { lookups.new ≡ lookups.old }
-    {
-        let pc = self.regs.pc;
-        let ccount = self.regs.sr.register(number::CCOUNT);
-        let owb = self.regs.sr.owb();
-        let interrupt = self.regs.sr.register(number::INTERRUPT);
-        match self.start(lookups) {
-            Plan::Done(effect) => {
-                tick(&mut self.regs);
-                let record = StepRecord {
-                    pc,
-                    kind: effect.kind,
-                    write: effect.write,
-                    access: None,
-                    reply: 0,
-                    ccount,
-                    owb,
-                    interrupt,
-                };
-                StartedTurn::Local(record)
-            }
-            Plan::Bus(_, pending) => StartedTurn::Asks(pending),
-        }
-    }
-
     /// The next turn, with the reply that is left for it: its record.
     #[inline(always)]
     fn next(&mut self, lookups: &mut Lookups) -> StepRecord
@@ -303,7 +220,9 @@ impl<'a> ShadowCore<'a> {
         ensures started { IsStarted (constant_byte lookups.old) self.old self.new }
         ensures code { lookups.new ≡ lookups.old }
     {
-        match self.begin(lookups) {
+        let head = head_of(&self.regs);
+        let plan = self.start(lookups);
+        match started(&mut self.regs, head, plan) {
             StartedTurn::Local(record) => record,
             StartedTurn::Asks(pending) => {
                 let reply = self.replies.next();
@@ -323,7 +242,7 @@ impl<'a> ShadowCore<'a> {
         ensures code { lookups.new ≡ lookups.old }
     {
         let rec = self.next(lookups);
-        self.left = left_past(&rec, self.left - 1);
+        self.left = left_past(rec, self.left - 1);
         rec
     }
 

@@ -4,10 +4,13 @@
 ghost use Rattle.std.specs.Prelude.{◌≡◌, true};
 ghost use Rattle.xt_frames.specs.Quick.{IsCommon};
 ghost use Rattle.xt_frames.specs.Breaches.{is_in_vectors, is_sp};
-ghost use Rattle.xt_shadow.specs.InStep.{IsNoEpc1};
+ghost use Rattle.xt_rows.specs.RowLaws.{IsRegister};
+ghost use Rattle.xt_exec.specs.States.{state_of};
+ghost use Rattle.xt_shadow.specs.InStep.{AgreesAt, IsNoEpc1};
 ghost use Rattle.xt_shadow.specs.Lookups.{IsOperand};
 ghost use Rattle.xt_trace.specs.declared.record.StepKind.TheVariants as kinds;
 
+use xt_exec::Regs;
 use xt_isa::Insn;
 use xt_isa::control::{Control, ReturnName};
 use xt_isa::density::{BareName, Density};
@@ -15,6 +18,7 @@ use xt_isa::memory::Memory;
 use xt_isa::shift::Shift;
 use xt_special::number;
 use xt_trace::{RegWrite, StepKind};
+use xt_window::Windows;
 
 /// Whether no breach names the instruction, and it is no system instruction.
 #[tactic(auto, unfolding(xt_frames::specs::Breaches::may_write_sp, xt_frames::specs::Breaches::is_return, xt_frames::specs::Breaches::is_windowing, xt_frames::specs::Breaches::names_window_register, xt_frames::specs::Marks::moved_to, xt_frames::specs::Breaches::sets_epc1, xt_frames::specs::Quick::is_system))]
@@ -29,6 +33,22 @@ pub fn is_common(i: Insn) -> bool
         Insn::Shift(Shift::Movsp(_, _)) => false,
         Insn::System(_) => false,
         _ => true,
+    }
+}
+
+/// Whether the register, if there is one, has a value in the newest frame, whose visible registers
+/// these are, and that is the processor's.
+#[inline(always)]
+pub fn agrees<W: Windows>(seen: &[Option<u32>; 16], regs: &Regs<W>, register: Option<u8>) -> bool
+    requires { IsRegister register }
+    ensures { result ≡ true → AgreesAt seen.now (state_of W.regs W.base W.start regs.now) register }
+{
+    match register {
+        Some(number) => match seen[number as usize] {
+            Some(value) => value == regs.win.read(number),
+            None => false,
+        },
+        None => true,
     }
 }
 

@@ -8,11 +8,9 @@ mod instructions;
 mod judging;
 mod lookups;
 mod quiet;
-mod replies;
 mod seeing;
 mod walk;
 
-pub use instructions::{is_executed, is_in_vectors, is_sp};
+pub use instructions::{agrees, is_executed, is_in_vectors, is_sp};
 pub use judging::judge_run;
 pub use lookups::{Lookup, Lookups};
-pub use replies::Replies;

@@ -4,7 +4,7 @@
 ghost use Rattle.std.specs.Prelude.{◌≡◌, ◌%◌, ℕ, true, All, IfOk, length, replicate, slice_index_or};
 ghost use Rattle.xt_isa.specs.Ranges.{in_range};
 ghost use Rattle.xt_map.specs.Memory.{constant_byte};
-ghost use Rattle.xt_fetch.specs.Fetching.{Fetches, fetch_at};
+ghost use Rattle.xt_map.specs.Fetching.{Fetches, fetch_at};
 ghost use Rattle.xt_shadow.specs.Lookups.{IsLookup, IsPlainInsn};
 ghost use Rattle.xt_shadow.specs.declared.lookups.Lookup.{Lookup};
 

@@ -4,17 +4,18 @@
 ghost use Rattle.std.specs.Prelude.{◌≡◌, ◌+◌, ◌<◌, ◌^◌, ℕ, Bool, false, length};
 ghost use Rattle.xt_map.specs.Memory.{constant_byte};
 ghost use Rattle.xt_frames.specs.Frames.{FrameState};
-ghost use Rattle.xt_frames.specs.HandlerSteps.{is_window};
 ghost use Rattle.xt_frames.specs.Judging.{seen_record};
 ghost use Rattle.xt_frames.specs.Stacks.{Moves, Stack};
-ghost use Rattle.xt_frames.specs.declared.kinds.HandlerPhase.TheVariants.{Outside};
+ghost use Rattle.xt_discipline.specs.declared.roles.Role.TheVariants.{Own};
 ghost use Rattle.xt_discipline.specs.ByteMarks.{KnowsOf};
+ghost use Rattle.xt_discipline.specs.Phases.{role_of};
 ghost use Rattle.xt_discipline.specs.Sides.{IsCallOf, IsFollowed, IsSeen, IsSide, live_in, standing_of};
 
 use xt_discipline::{
-    Areas, Change, Held, Side, areas, change_areas, is_window, loads, newest, saves, store,
+    Areas, Change, Held, Role, Side, areas, change_areas, loads, newest, phase_after, role_of,
+    saves, store,
 };
-use xt_frames::{Breach, HandlerPhase};
+use xt_frames::Breach;
 use xt_map::Constants;
 use xt_trace::StepRecord;
 
@@ -40,7 +41,7 @@ fn follow(side: &Side, marks: &mut [Held], depth: u32, call: Option<Areas>)
     }
 }
 
-/// Judges a record outside handler steps that begins none, without the short way of most records,
+/// Judges a record of the program itself, without the short way of most records,
 /// which this one is not taken to go.
 fn judge(
     side: &mut Side,
@@ -50,20 +51,21 @@ fn judge(
 ) -> Result<(), Breach>
     requires side { IsSide side.old }
     requires room { side.old.steps + 1 < 2 ^ 32 }
-    requires outside { side.old.phase ≡ Outside }
-    requires plain { is_window rec.now.kind ≡ false }
+    requires own { Own ≡ role_of side.old.phase rec.now.kind }
     requires len { length marks.old ≡ 0x52000 }
     ensures len { length marks.new ≡ length marks.old }
     ensures seen { (others stale : ℕ → Bool) → KnowsOf side.old.core marks.old (live_in side.old.frames) others stale
         → IsSeen side.old side.new marks.new others stale
         (seen_record (constant_byte code.now) side.old.frames.bounds (standing_of side.old) others stale rec.now) result }
 {
+    let next = phase_after(code, side.phase, rec);
     let saves = saves(marks, rec.access);
     let stale = loads(marks, rec.access);
     let depth = side.frames.depth();
     let call = newest(&side.frames, side.hi);
     side.frames
         .judge_whole(code, side.steps, rec, false, saves, stale)?;
+    side.phase = next;
     side.steps += 1;
     store(marks, rec.access);
     follow(side, marks, depth, call);
@@ -87,14 +89,8 @@ pub fn see(
         → IsSeen side.old side.new marks.new others stale
         (seen_record (constant_byte code.now) side.old.frames.bounds (standing_of side.old) others stale rec.now) result }
 {
-    match side.phase {
-        HandlerPhase::Outside => {
-            if special && !is_window(rec.kind) {
-                judge(side, code, marks, rec)
-            } else {
-                side.see(code, marks, rec)
-            }
-        }
-        HandlerPhase::InHandler | HandlerPhase::Nested => side.see(code, marks, rec),
+    match role_of(side.phase, rec.kind) {
+        Role::Own if special => judge(side, code, marks, rec),
+        _ => side.see(code, marks, rec),
     }
 }

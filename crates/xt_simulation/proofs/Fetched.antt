@@ -6,8 +6,8 @@ use Rattle.std.proofs.lemmas.List.{get_or_past}
 use Rattle.xt_isa.specs.Spelling.{spelled_insn, fields_at, length_of}
 use Rattle.xt_isa.proofs.ThirdByte.{third_byte}
 use Rattle.xt_map.specs.Regions.{region_of}
-use Rattle.xt_fetch.specs.Fetching.{can_fetch, unfetchable, fetched_length, fetched_past, fetch_at, read_as}
-use Rattle.xt_fetch.specs.Code.{code_bytes}
+use Rattle.xt_map.specs.Fetching.{can_fetch, unfetchable, fetched_length, fetched_past, fetch_at, read_as}
+use Rattle.xt_map.specs.Code.{code_bytes}
 use Rattle.xt_handlers.specs.declared.stretch.Side.{Side}
 use Rattle.xt_handlers.specs.declared.stretch.HandlerVerdict.TheVariants.{Yes, No}
 use Rattle.xt_handlers.specs.Spelled.{step_of_spelled, step_of, lines_of}

@@ -18,7 +18,7 @@ use Rattle.xt_special.specs.Timers.{after_tick}
 use Rattle.xt_special.specs.Interrupts.{pending_of}
 use Rattle.xt_window.specs.Ring.{place, visible, with_bit, without_bit}
 use Rattle.xt_trace.specs.declared.record.StepKind.TheVariants as kind
-use Rattle.xt_fetch.specs.Fetching.{Fetches, fetch_at, can_fetch, read_as}
+use Rattle.xt_map.specs.Fetching.{Fetches, fetch_at, can_fetch, read_as}
 use Rattle.xt_exec.specs.State.{State}
 use Rattle.xt_exec.specs.TurnLaws.{IsShaped}
 use Rattle.xt_exec.specs.Turn.{planned_turn, demand, turn, window_exception}
@@ -61,7 +61,7 @@ use Rattle.xt_handlers.specs.Vectors.{vector_number, vector_at, vector_bytes, ve
 use Rattle.xt_simulation.specs.Steps.{state_now, memory_now}
 use Rattle.xt_simulation.specs.Handling.{machine, InDram, Somewhere, Begins, Handling, Settles, IsGood, HandlerStep, steps_on, closes_stretch}
 use Rattle.xt_simulation.specs.HandlerLaws.{StretchesAreEntered, HandlerStepsAreKept, HandlersAreSpared}
-use Rattle.xt_fetch.specs.Code.{AreBytes}
+use Rattle.xt_map.specs.Code.{AreBytes}
 use Rattle.xt_simulation.proofs.Fetched.{byte_is as fetched_byte, bytes_length, byte_small, fetched_is, step_is, vector_fetches, vector_handles, fetch_small, length_is}
 use Rattle.xt_simulation.proofs.Plans.{plan_asks}
 use Rattle.xt_simulation.proofs.Turns.{Shown, quiet_level, shown, turned, Turned, load, store, wide_nop, narrow_nop, ends_overflow, ends_underflow, other, Ended, ends_with_rfwo, ends_with_rfwu}

@@ -1,6 +1,6 @@
 -- A run of an image with valid options, of which the history and the places of the accesses are kept.
 use Rattle.std.proofs.Common.{◌≡◌, ℕ, ◌-◌, ◌<◌, ◌^◌, Bool, true, false, cond, Option, Some, List, [], ◌∷◌, sym, ap, ◌∙◌, refl, arith, subst}
-use Rattle.xt_fetch.specs.Code.{AreBytes}
+use Rattle.xt_map.specs.Code.{AreBytes}
 use Rattle.xt_map.specs.declared.segment.Segment.{Segment}
 use Rattle.std.specs.Prelude.{find, slice_index}
 use Rattle.std.specs.Option.{option_map_or}

@@ -1,7 +1,7 @@
 -- A step of a nested interrupt is RFI 5, or leaves this of the core and of the frame state.
 use Rattle.std.proofs.Common.{◌≡◌, ℕ, Bool, Some, None, true, false, ltb, sym, ap, ◌∙◌}
 use Rattle.xt_isa.specs.declared.Insn.{Insn}
-use Rattle.xt_fetch.specs.Fetching.{Fetches, fetch_at}
+use Rattle.xt_map.specs.Fetching.{Fetches, fetch_at}
 use Rattle.xt_frames.specs.Marks.{are_own_marks}
 use Rattle.xt_frames.specs.Nesting.{ends_nested, nested_view}
 use Rattle.xt_map.specs.declared.contents.MemoryContents.{MemoryContents}

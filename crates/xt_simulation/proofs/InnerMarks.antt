@@ -30,7 +30,7 @@ use Rattle.xt_rows.specs.Kinds.{moved_to}
 use Rattle.xt_rows.specs.Operands.{changes_interrupt, reads, special_reads}
 use Rattle.xt_rows.specs.Outcomes.{outcome, outcome_at, system_outcome, value_of}
 use Rattle.xt_rows.specs.Settling.{Executed, after_effect, write_with_reply}
-use Rattle.xt_fetch.specs.Fetching.{Fetches, fetch_at}
+use Rattle.xt_map.specs.Fetching.{Fetches, fetch_at}
 use Rattle.xt_exec.specs.State.{State}
 use Rattle.xt_exec.specs.TurnLaws.{IsShaped}
 use Rattle.xt_exec.specs.Turn.{outcome_turn, planned_turn, with_write}

@@ -34,8 +34,8 @@ use Rattle.xt_rows.specs.Outcomes.{outcome, control_outcome, density_outcome, sy
 use Rattle.xt_rows.specs.Settling.{Kind, Executed, Stopped, Settled, after_effect, after_outcome, write_with_reply}
 use Rattle.xt_rows.proofs.Fitting.{outcome_fits, outcome_alone}
 use Rattle.xt_rows.proofs.Modes.{modes_kept}
-use Rattle.xt_fetch.specs.Code.{AreBytes}
-use Rattle.xt_fetch.specs.Fetching.{Fetched, Fetches, Fails, SpellsNothing, fetch_at}
+use Rattle.xt_map.specs.Code.{AreBytes}
+use Rattle.xt_map.specs.Fetching.{Fetched, Fetches, Fails, SpellsNothing, fetch_at}
 use Rattle.xt_exec.specs.State.{State}
 use Rattle.xt_exec.specs.TurnLaws.{IsShaped}
 use Rattle.xt_exec.specs.Turn.{planned_turn, turn, in_window, is_illegal, outcome_turn}

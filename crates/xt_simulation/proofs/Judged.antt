@@ -23,7 +23,7 @@ use Rattle.xt_trace.specs.declared.record.StepRecord.{StepRecord}
 use Rattle.xt_trace.specs.declared.record.RegWrite.{RegWrite}
 use Rattle.xt_rows.specs.declared.outcome.ReplyTarget.{ReplyTarget}
 use Rattle.xt_rows.specs.declared.outcome.Effect.{Effect}
-use Rattle.xt_fetch.specs.Fetching.{Fetched, Fetches}
+use Rattle.xt_map.specs.Fetching.{Fetched, Fetches}
 use Rattle.xt_special.specs.Access.{set_to, no_set, with_sets, is_eps}
 use Rattle.xt_rows.specs.Effects.{illegal_instruction}
 use Rattle.xt_rows.specs.Operands.{highest_register}

@@ -4,8 +4,8 @@ use Rattle.std.proofs.lemmas.Bool.{or_left}
 use Rattle.xt_map.specs.declared.access.Access.{Access}
 use Rattle.xt_map.specs.declared.contents.MemoryContents.{MemoryContents}
 use Rattle.xt_map.specs.Memory.{HasSizes, byte_at}
-use Rattle.xt_fetch.specs.Fetching.{fetch_at}
-use Rattle.xt_fetch.specs.Code.{AreBytes}
+use Rattle.xt_map.specs.Fetching.{fetch_at}
+use Rattle.xt_map.specs.Code.{AreBytes}
 use Rattle.xt_exec.specs.State.{State}
 use Rattle.xt_exec.specs.TurnLaws.{IsShaped}
 use Rattle.xt_exec.specs.Turn.{planned_turn, demand, turn, reply_where}

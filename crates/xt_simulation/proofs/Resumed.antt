@@ -25,8 +25,8 @@ use Rattle.xt_rows.specs.Numbers.{natural}
 use Rattle.xt_rows.specs.Operands.{reads, special_reads}
 use Rattle.xt_rows.specs.Outcomes.{outcome, system_outcome, outcome_at}
 use Rattle.xt_rows.specs.Settling.{after_effect}
-use Rattle.xt_fetch.specs.Code.{AreBytes}
-use Rattle.xt_fetch.specs.Fetching.{Fetched, Fetches, Fails, SpellsNothing, fetch_at}
+use Rattle.xt_map.specs.Code.{AreBytes}
+use Rattle.xt_map.specs.Fetching.{Fetched, Fetches, Fails, SpellsNothing, fetch_at}
 use Rattle.xt_exec.specs.State.{State}
 use Rattle.xt_exec.specs.TurnLaws.{IsShaped}
 use Rattle.xt_exec.specs.Turn.{planned_turn, demand, turn, outcome_turn, is_illegal}

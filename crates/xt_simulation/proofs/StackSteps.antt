@@ -1,5 +1,5 @@
 -- A step that shows no breach keeps the chain of stack pointers, where the code is of bytes.
-use Rattle.xt_fetch.proofs.Fetches.{fetched_range}
+use Rattle.xt_map.proofs.Fetches.{fetched_range}
 use Rattle.xt_frames.proofs.StackSteps as step
 use Rattle.xt_simulation.specs.JudgedSteps.{KeepsStack}
 

@@ -6,8 +6,8 @@ use Rattle.xt_map.specs.declared.contents.MemoryContents.{MemoryContents}
 use Rattle.xt_map.specs.Memory.{byte_at}
 use Rattle.xt_special.specs.declared.ps.Ps.{Ps}
 use Rattle.xt_special.specs.Control.{Control}
-use Rattle.xt_fetch.specs.Code.{AreBytes}
-use Rattle.xt_fetch.specs.Fetching.{fetch_at}
+use Rattle.xt_map.specs.Code.{AreBytes}
+use Rattle.xt_map.specs.Fetching.{fetch_at}
 use Rattle.xt_exec.specs.State.{State}
 use Rattle.xt_exec.specs.TurnLaws.{IsShaped, IsShapedControl}
 use Rattle.xt_exec.specs.Turn.{Planned, planned_turn, demand, turn, write_with_reply}

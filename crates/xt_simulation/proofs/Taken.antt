@@ -17,7 +17,7 @@ use Rattle.xt_window.specs.Moves.{base_after_return, behind}
 use Rattle.xt_rows.specs.declared.outcome.Outcome.{Outcome}
 use Rattle.xt_rows.specs.declared.outcome.Outcome.TheVariants.{Does, Raises, Asks, Stops, Windowed}
 use Rattle.xt_rows.specs.declared.outcome.WindowStep.TheVariants.{Enters, Returns, EndsOverflow, EndsUnderflow, Rotates, MovesStack, Reads, Sets, Exchanges}
-use Rattle.xt_fetch.specs.Fetching.{Fetched, Fetches, Fails, SpellsNothing, fetch_at}
+use Rattle.xt_map.specs.Fetching.{Fetched, Fetches, Fails, SpellsNothing, fetch_at}
 use Rattle.xt_rows.specs.Effects.{write_to, no_caller_window, illegal_instruction}
 use Rattle.xt_rows.specs.Outcomes.{outcome_at}
 use Rattle.xt_rows.specs.Settling.{settled_interrupt}

@@ -30,7 +30,7 @@ use Rattle.xt_rows.specs.declared.outcome.Flow.TheVariants.{Falls}
 use Rattle.xt_rows.specs.declared.outcome.Outcome.{Outcome}
 use Rattle.xt_rows.specs.declared.outcome.Outcome.TheVariants.{Does, Asks, Windowed}
 use Rattle.xt_rows.specs.declared.outcome.WindowStep.TheVariants.{EndsOverflow, EndsUnderflow}
-use Rattle.xt_fetch.specs.Fetching.{Fetches, fetch_at}
+use Rattle.xt_map.specs.Fetching.{Fetches, fetch_at}
 use Rattle.xt_rows.specs.Numbers.{plus, loaded_value}
 use Rattle.xt_rows.specs.Operands.{reads, special_reads}
 use Rattle.xt_rows.specs.Effects.{no_change, loads, stores, illegal_instruction}

@@ -12,7 +12,7 @@ use Rattle.xt_map.specs.Serving.{reply_to, memory_past}
 use Rattle.xt_map.specs.History.{memory_after, IsLegal}
 use Rattle.xt_map.proofs.Grown.{memory_after_push, legal_push}
 use Rattle.xt_trace.specs.declared.record.StepRecord.{StepRecord}
-use Rattle.xt_fetch.specs.Code.{AreBytes}
+use Rattle.xt_map.specs.Code.{AreBytes}
 use Rattle.xt_exec.specs.State.{State}
 use Rattle.xt_exec.specs.TurnLaws.{IsShaped}
 use Rattle.xt_exec.specs.Turn.{planned_turn, demand, turn}

@@ -1,6 +1,6 @@
 -- A whole turn: interrupts first, then waiting, then the instruction.
 use Rattle.xt_special.proofs.Kept.{Kept, interrupt_kept, tick_kept}
-use Rattle.xt_fetch.proofs.Fetches.{fetched_range}
+use Rattle.xt_map.proofs.Fetches.{fetched_range}
 use Rattle.std.proofs.Common.{◌≡◌, ℕ, ◌<◌, Bool, true, false, ◌&&◌, not, eqb, ltb, List, Some, None, sym, ap, ◌∙◌, refl, ⊎_elim, subst}
 use Rattle.std.proofs.Math.ListN.{set}
 use Rattle.std.proofs.lemmas.Bool.{cases_Bool, true≢false, not-false, eqb-true}
@@ -11,11 +11,11 @@ use Rattle.xt_special.specs.Control.{Control, special_of}
 use Rattle.xt_special.specs.Timers.{after_tick}
 use Rattle.xt_special.specs.Interrupts.{pending_of, after_interrupt}
 use Rattle.xt_trace.specs.declared.record.StepRecord.{StepRecord}
-use Rattle.xt_fetch.specs.Fetching.{Fetched, Fetches, Fails, SpellsNothing, fetch_at}
+use Rattle.xt_map.specs.Fetching.{Fetched, Fetches, Fails, SpellsNothing, fetch_at}
 use Rattle.xt_rows.specs.Effects.{illegal_instruction, fetch_error}
 use Rattle.xt_rows.specs.Settling.{settled_interrupt, settled_wait}
 use Rattle.xt_exec.proofs.Specials.{level_small}
-use Rattle.xt_fetch.specs.Code.{AreBytes}
+use Rattle.xt_map.specs.Code.{AreBytes}
 use Rattle.xt_exec.specs.State.{State}
 use Rattle.xt_exec.specs.TurnLaws.{IsShaped}
 use Rattle.xt_exec.specs.Turn.{Planned, planned_turn, in_window, fetched_turn, turn}

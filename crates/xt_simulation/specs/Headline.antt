@@ -26,7 +26,7 @@ use Rattle.xt_map.specs.Memory.{constant_byte}
 use Rattle.xt_map.specs.History.{replies_of}
 use Rattle.xt_trace.specs.declared.options.Options.{Options}
 use Rattle.xt_trace.specs.declared.record.StepRecord.{StepRecord}
-use Rattle.xt_fetch.specs.Code.{AreBytes}
+use Rattle.xt_map.specs.Code.{AreBytes}
 use Rattle.xt_trace.specs.Traces.{trace_over}
 use Rattle.xt_trace.specs.Runs.{Opening, Run, world_at_start, IsRunOf, schedule_of}
 use Rattle.xt_trace.specs.Short.{ShortRun, IsShortRunOf, short_schedule}

@@ -2,7 +2,7 @@
 -- A judged step keeps the relation: what is said of it.
 use Rattle.std.specs.Prelude.{◌≡◌, ◌<◌, ℕ, Bool, false, None, List}
 use Rattle.xt_trace.specs.declared.record.StepRecord.{StepRecord}
-use Rattle.xt_fetch.specs.Code.{AreBytes}
+use Rattle.xt_map.specs.Code.{AreBytes}
 use Rattle.xt_exec.specs.State.{State}
 use Rattle.xt_exec.specs.TurnLaws.{IsShaped}
 use Rattle.xt_exec.specs.Turn.{planned_turn, turn}
@@ -11,7 +11,7 @@ use Rattle.xt_frames.specs.FrameStep.{FrameTurn, step_with_inputs}
 use Rattle.xt_frames.specs.HandlerSteps.{is_window}
 use Rattle.xt_frames.specs.Breaches.{Bounds, laid_breach, fresh_after}
 use Rattle.xt_frames.specs.Nesting.{unset_after}
-use Rattle.xt_fetch.specs.Fetching.{fetch_at}
+use Rattle.xt_map.specs.Fetching.{fetch_at}
 use Rattle.xt_frames.specs.Stacks.{Stack}
 use Rattle.xt_simulation.specs.Stacks.{sp_under}
 use Rattle.xt_simulation.specs.Relation.{Level, lost_at}

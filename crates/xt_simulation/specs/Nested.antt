@@ -10,7 +10,7 @@ use Rattle.xt_map.specs.Memory.{HasSizes, byte_at}
 use Rattle.xt_special.specs.Numbers as number
 use Rattle.xt_special.specs.Control.{special_of, ps_word}
 use Rattle.xt_window.specs.Ring.{place, visible}
-use Rattle.xt_fetch.specs.Code.{AreBytes}
+use Rattle.xt_map.specs.Code.{AreBytes}
 use Rattle.xt_exec.specs.State.{State}
 use Rattle.xt_exec.specs.TurnLaws.{IsShaped}
 use Rattle.xt_exec.specs.Turn.{planned_turn}

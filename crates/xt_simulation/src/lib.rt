@@ -5,4 +5,8 @@
 //! one legal history. Each law is the contract of a function that does nothing.
 #![tactic(auto)]
 
+pub mod filling_laws;
 pub mod laws;
+pub mod secret_laws;
+pub mod use_laws;
+pub mod written_laws;

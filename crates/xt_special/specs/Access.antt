@@ -22,10 +22,10 @@ abbrev pub is_window_register : ℕ → Bool
 is_window_register n = n == number.windowbase || n == number.windowstart
 
 abbrev pub is_ccompare : ℕ → Bool
-is_ccompare n = nat_le 240 n && nat_le n 242
+is_ccompare n = nat_le (number.ccompare 0) n && nat_le n (number.ccompare 2)
 
 abbrev pub is_eps : ℕ → Bool
-is_eps n = nat_le 194 n && nat_le n 199
+is_eps n = nat_le (number.eps 2) n && nat_le n (number.eps 7)
 
 -- ---- bits of INTERRUPT
 
@@ -35,7 +35,8 @@ software_bits = 2 ^ 7 + 2 ^ 29
 
 -- the timers 0, 1 and 2 have the bits 6, 15 and 16 ('profile')
 unfoldable pub timer_bit : ℕ → ℕ
-timer_bit n = if n == 240 then 2 ^ 6 else (if n == 241 then 2 ^ 15 else 2 ^ 16)
+timer_bit n =
+    if n == number.ccompare 0 then 2 ^ 6 else (if n == number.ccompare 1 then 2 ^ 15 else 2 ^ 16)
 
 -- a word without these bits
 unfoldable pub without_bits : ℕ → ℕ → ℕ

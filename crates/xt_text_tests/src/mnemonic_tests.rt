@@ -1,9 +1,8 @@
 //! Operands that no line of a text hands on: of another form, or a register that the access does not reach.
 
 use std::test::Fail;
-use xt_mnemonic::Argument::{Register, Special, Value};
-use xt_mnemonic::{Argument, OperandFault, instruction};
-use xt_names::mnemonic_of;
+use xt_names::Argument::{Register, Special, Value};
+use xt_names::{Argument, OperandFault, instruction, mnemonic_of};
 
 /// A mnemonic, and its operands.
 type Fault = (&'static str, &'static [Argument]);

@@ -7,7 +7,7 @@ use Rattle.xt_isa.specs.declared.Insn.TheVariants as insn
 use Rattle.xt_isa.specs.declared.system.System.TheVariants as system
 use Rattle.xt_special.specs.Interrupts.{pending_of}
 use Rattle.xt_rows.specs.Settling.{settled_interrupt, settled_wait}
-use Rattle.xt_fetch.specs.Fetching.{Fetched, Fetches, fetch_at}
+use Rattle.xt_map.specs.Fetching.{Fetched, Fetches, fetch_at}
 use Rattle.xt_window.specs.Ring.{visible}
 use Rattle.xt_exec.specs.State.{State}
 use Rattle.xt_exec.specs.Turn.{Planned, turn_or_overflow, fetched_turn, in_window, is_illegal, overflow, planned_turn, raises, window_check}

@@ -9,7 +9,7 @@ use Rattle.xt_trace.specs.Calls.{is_stop}
 use Rattle.xt_trace.specs.Traces.{has_stopped}
 use Rattle.xt_trace.specs.Worlds.{Core, Line, World, answer, core_given, give, left_past, line_given, line_past, memory_left}
 use Rattle.xt_trace.proofs.Short.{stopped_push}
-use Rattle.xt_fetch.specs.Code.{AreBytes}
+use Rattle.xt_map.specs.Code.{AreBytes}
 use Rattle.xt_exec.specs.Chips.{processor}
 use Rattle.xt_exec.specs.State.{State}
 use Rattle.xt_exec.specs.Turn.{demand, planned_turn, turn, with_write, write_with_reply}

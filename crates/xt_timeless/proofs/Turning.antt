@@ -32,9 +32,9 @@ use Rattle.xt_rows.specs.Effects.{no_change, window_register, exchanges_special,
 use Rattle.xt_rows.specs.Operands.{changes_interrupt, reads, special_reads}
 use Rattle.xt_rows.specs.Outcomes.{outcome, outcome_at, system_outcome, value_of}
 use Rattle.xt_rows.specs.Settling.{after_flow, settled_interrupt, settled_wait}
-use Rattle.xt_fetch.specs.Code.{AreBytes}
-use Rattle.xt_fetch.specs.Fetching.{Fetched, Fetches, Fails, SpellsNothing, fetch_at}
-use Rattle.xt_fetch.proofs.Fetches.{fetched_range}
+use Rattle.xt_map.specs.Code.{AreBytes}
+use Rattle.xt_map.specs.Fetching.{Fetched, Fetches, Fails, SpellsNothing, fetch_at}
+use Rattle.xt_map.proofs.Fetches.{fetched_range}
 use Rattle.xt_exec.specs.State.{State}
 use Rattle.xt_exec.specs.Turn.{Planned, turn_or_overflow, outcome_turn, entry_turn, fetched_turn, in_window, is_illegal, moved_stack, overflow, planned_turn, raises, resuming_turn, return_pc, return_size, return_turn, underflow, window_check, window_exception, window_step, window_turn}
 use Rattle.xt_timeless.specs.Time.{executes, fetches_time, reads_time, special_without_time, timer_bits, uses_time, without_time}

@@ -1,7 +1,7 @@
 -- States laws of time: where two cores or two worlds are equal but for it, turns that use no time
 -- keep them so.
 use Rattle.std.specs.Prelude.{◌≡◌, ℕ, zero, suc, ◌≤◌, true, false, ◌⊎◌, List, [], ◌∷◌, length}
-use Rattle.xt_fetch.specs.Code.{AreBytes}
+use Rattle.xt_map.specs.Code.{AreBytes}
 use Rattle.xt_trace.specs.Traces.{has_stopped}
 use Rattle.xt_trace.specs.Worlds.{Core, World, advance, give}
 use Rattle.xt_exec.specs.Chips.{processor}

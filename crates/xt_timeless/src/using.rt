@@ -2,7 +2,7 @@
 ghost use Rattle.std.specs.Prelude.{◌≡◌, ℕ, ◌==◌, ◌&&◌, ◌||◌, not, true, slice_index};
 ghost use Rattle.xt_isa.specs.Ranges.{in_range};
 ghost use Rattle.xt_map.specs.Memory.{constant_byte};
-ghost use Rattle.xt_fetch.specs.Fetching.{Fetches, fetch_at};
+ghost use Rattle.xt_map.specs.Fetching.{Fetches, fetch_at};
 ghost use Rattle.xt_special.specs.Numbers as numbers;
 ghost use Rattle.xt_special.specs.Interrupts.{pending_level};
 ghost use Rattle.xt_exec.specs.States.{state_of};

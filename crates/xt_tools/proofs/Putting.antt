@@ -7,12 +7,12 @@ use Rattle.xt_image.specs.Rules.{image_fault}
 use Rattle.xt_record.specs.Format.{recording_fault}
 use Rattle.xt_io.specs.declared.sink.Refused.{Refused}
 use Rattle.xt_io.specs.declared.sink.Refused.TheVariants as refused
-use Rattle.xt_status.specs.declared.status.Status.{Status}
-use Rattle.xt_status.specs.declared.status.Status.TheVariants as status
-use Rattle.xt_status.specs.Inputs.{image_refusal, recording_refusal}
-use Rattle.xt_status.specs.Statuses.{status_after}
-use Rattle.xt_status.specs.Writes.{Writes}
-use Rattle.xt_status.proofs.Quiet.{keeps_same}
+use Rattle.xt_report.specs.declared.status.Status.{Status}
+use Rattle.xt_report.specs.declared.status.Status.TheVariants as status
+use Rattle.xt_report.specs.Inputs.{image_refusal, recording_refusal}
+use Rattle.xt_report.specs.Statuses.{status_after}
+use Rattle.xt_report.specs.Writes.{Writes}
+use Rattle.xt_report.proofs.Quiet.{keeps_same}
 use Rattle.xt_tools.specs.Commands.{IsMade, elf_refusal, text_refusal}
 use Rattle.xt_tools.specs.Puts.{Puts}
 

@@ -18,7 +18,7 @@ use Rattle.xt_record.specs.Fields.{image_in}
 use Rattle.xt_record.specs.Format.{run_in}
 use Rattle.xt_record.specs.Written.{recording_bytes}
 use Rattle.xt_events.specs.Events.{events_text}
-use Rattle.xt_counts.specs.CountsText.{IsCountsText}
+use Rattle.xt_events.specs.CountsText.{IsCountsText}
 use Rattle.xt_debug.specs.FrameNotes.{noted}
 use Rattle.xt_events.specs.Lines.{filtered_between}
 use Rattle.xt_events.specs.declared.filter.Filter.{Filter}
@@ -31,8 +31,8 @@ use Rattle.xt_command_line.specs.declared.command.ProfileOptions.{ProfileOptions
 use Rattle.xt_command_line.specs.declared.command.Way.{Way}
 use Rattle.xt_command_line.specs.declared.command.Way.TheVariants as way
 use Rattle.xt_command_line.specs.declared.command.Turns.{Turns}
-use Rattle.xt_status.specs.declared.status.Status.{Status}
-use Rattle.xt_status.specs.declared.status.Status.TheVariants as status
+use Rattle.xt_report.specs.declared.status.Status.{Status}
+use Rattle.xt_report.specs.declared.status.Status.TheVariants as status
 
 -- ---- what is refused
 

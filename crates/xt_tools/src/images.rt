@@ -3,7 +3,7 @@ ghost use Rattle.std.specs.Prelude.{◌≡◌, ◌≢◌, ◌≤◌, ◌%◌, le
 ghost use Rattle.xt_image.specs.Format.{image_of};
 ghost use Rattle.xt_image.specs.ImageParts.{IsWellFormed};
 ghost use Rattle.xt_report.specs.Checks.{check_text};
-ghost use Rattle.xt_status.specs.Inputs.{image_refusal};
+ghost use Rattle.xt_report.specs.Inputs.{image_refusal};
 ghost use Rattle.xt_tools.specs.Commands.{IsListed, IsMade};
 
 use std::alloc::{AllocError, Global};
@@ -12,8 +12,7 @@ use xt_disasm::listing;
 use xt_flow::{flow_listing, flow_source, source};
 use xt_image::Image;
 use xt_map::Text;
-use xt_report::check_text;
-use xt_status::{Status, image_in};
+use xt_report::{Status, check_text, image_in};
 
 // The listing of an image.
 fn listed(alloc: Global, what: &Listing, image: &Image) -> Result<Text, AllocError>

@@ -4,28 +4,26 @@ ghost use Rattle.xt_map.specs.Placing.{IsPlaced};
 ghost use Rattle.xt_core.specs.Runs.{IsRunOf};
 ghost use Rattle.xt_record.specs.Fields.{image_in};
 ghost use Rattle.xt_record.specs.Format.{run_in};
-ghost use Rattle.xt_status.specs.Inputs.{recording_refusal};
-ghost use Rattle.xt_status.specs.Writes.{Writes};
+ghost use Rattle.xt_report.specs.Inputs.{recording_refusal};
+ghost use Rattle.xt_report.specs.Writes.{Writes};
 ghost use Rattle.xt_tools.specs.Commands.{IsCountsTold, IsMade, IsRaceTold, filter_of, events_output, migrated_recording, profile_by, profile_output, trace_output, trace_text};
 ghost use Rattle.xt_tools.specs.Puts.{Puts};
-ghost use Rattle.xt_use_report.specs.SecretFindings.{AreSecretsTold};
-ghost use Rattle.xt_use_report.specs.UseFindings.{IsUsesTold};
+ghost use Rattle.xt_report.specs.SecretFindings.{AreSecretsTold};
+ghost use Rattle.xt_report.specs.UseFindings.{IsUsesTold};
 
 use crate::turns::write_lines;
 use std::alloc::{AllocError, Global};
 use xt_command_line::{ProfileOptions, SecretOptions, Turns};
-use xt_counts::counts_text;
 use xt_debug::FrameLines;
-use xt_events::{Filter, TurnLines, events_text};
+use xt_events::{Filter, TurnLines, counts_text, events_text};
 use xt_image::{Image, well_formed_is_placed};
 use xt_io::{Refused, Sink};
 use xt_map::Text;
 use xt_profile::{profile_text, whole_profile, whole_text};
 use xt_race::race_text;
 use xt_record::write_recording;
-use xt_status::{Status, recording_in, status_after};
+use xt_report::{Status, recording_in, secrets_text, status_after, uses_text};
 use xt_trace::Run;
-use xt_use_report::{secrets_text, uses_text};
 use xt_uses::Discipline;
 
 /// The same recording in version 2, or the status of its first fault.

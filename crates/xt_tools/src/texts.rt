@@ -9,7 +9,7 @@ use xt_elf::{ElfFault, from_elf};
 use xt_image::write;
 use xt_lex::AsmFault;
 use xt_map::Text;
-use xt_status::Status;
+use xt_report::Status;
 
 /// The most bytes that an assembly text may have.
 pub const TEXT_LIMIT: usize = 1_048_576;

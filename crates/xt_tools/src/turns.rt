@@ -3,14 +3,14 @@ ghost use Rattle.std.specs.Prelude.{◌≡◌, ℕ, List, length};
 ghost use Rattle.std.specs.List.{concat};
 ghost use Rattle.xt_events.specs.Lines.{lines_in};
 ghost use Rattle.xt_debug.specs.FrameNotes.{GivesLine};
-ghost use Rattle.xt_status.specs.Writes.{Writes};
+ghost use Rattle.xt_report.specs.Writes.{Writes};
 
 use std::alloc::{AllocError, Global};
 use xt_debug::FrameLines;
 use xt_events::TurnLines;
 use xt_io::{Refused, Sink};
 use xt_map::Text;
-use xt_status::Piece;
+use xt_report::Piece;
 
 /// Lines that are given one by one.
 pub trait Lines {

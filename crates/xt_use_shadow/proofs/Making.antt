@@ -10,7 +10,7 @@ use Rattle.xt_special.specs.Interrupts.{pending_of}
 use Rattle.xt_trace.specs.Traces.{replies_past, reply_for}
 use Rattle.xt_trace.specs.Worlds.{left_past}
 use Rattle.xt_trace.specs.declared.record.StepRecord.{StepRecord}
-use Rattle.xt_fetch.specs.Fetching.{Fetches, fetch_at}
+use Rattle.xt_map.specs.Fetching.{Fetches, fetch_at}
 use Rattle.xt_window.specs.Values.{WindowState}
 use Rattle.xt_exec.specs.declared.regs.Regs.{Regs}
 use Rattle.xt_exec.specs.State.{State}

@@ -8,7 +8,7 @@ use Rattle.xt_trace.specs.declared.record.RegWrite.{RegWrite}
 use Rattle.xt_trace.specs.declared.record.StepKind.{StepKind}
 use Rattle.xt_trace.specs.declared.record.StepKind.TheVariants as kind
 use Rattle.xt_trace.specs.declared.record.StepRecord.{StepRecord}
-use Rattle.xt_fetch.specs.Fetching.{Fetched, Fetches, Fails, SpellsNothing}
+use Rattle.xt_map.specs.Fetching.{Fetched, Fetches, Fails, SpellsNothing}
 use Rattle.xt_rows.specs.RowLaws.{IsProperWrite, IsWord}
 use Rattle.xt_exec.specs.State.{State}
 use Rattle.xt_exec.specs.Turn.{turn}
@@ -25,6 +25,8 @@ use Rattle.xt_frames.specs.Levels.{with_epc1}
 use Rattle.xt_frames.specs.SaveAreas.{is_live}
 use Rattle.xt_frames.proofs.Quickly.{IsOver}
 use Rattle.xt_frames.proofs.Shown.{KeepsSp, sp_kept, sp_written}
+use Rattle.xt_discipline.specs.declared.roles.Role.TheVariants.{Own}
+use Rattle.xt_discipline.specs.Phases.{role_of}
 use Rattle.xt_discipline.specs.ByteMarks.{either}
 use Rattle.xt_discipline.proofs.Seeing.{at_last, le_same}
 use Rattle.xt_shadow.proofs.InStep.{over}
@@ -46,7 +48,7 @@ use Rattle.xt_use_walk.specs.Sides.{IsUseSeen, IsUseSide, live_in, standing_of}
 use Rattle.xt_use_walk.proofs.Following.{knows_stored}
 use Rattle.xt_use_walk.proofs.Forgetting.{knows_unmoved}
 use Rattle.xt_use_walk.proofs.Moving.{follows_same, stands_same}
-use Rattle.xt_use_walk.proofs.Seen.{found_by, judged_past, plain_judged, step_seen}
+use Rattle.xt_use_walk.proofs.Seen.{found_by, judged_past, role_seen}
 use Rattle.xt_use_shadow.specs.Shadows.{IsUseReady, masks_after_write}
 use Rattle.xt_use_shadow.proofs.Knowing.{are_whole}
 
@@ -165,7 +167,6 @@ module _ (code : ℕ → ℕ) (side : Side) (seen : List (Option ℕ)) (masks : 
           let followed = follows_same before.core r g u n (stands_same r g u refl (λ some. ap (λ (y : ℕ). y - 16) sp)) others (without (λ a. own a || others a) (mask_stored all_bits rec.access bytes)) middle in
           let gone = knows_unmoved before.core n (is_live r u) others _ after.uses.state (stack_pointer before.uses.state) sp followed in
           let none : side.carried ≡ side.carried + 0 = omega arith in
-          step_seen before after n others bytes (use_seen code before.uses.bounds (standing_of before) others bytes rec) (use_seen_judged code before.uses.bounds (standing_of before) others bytes false rec) (Ok tt)
-          (plain_judged before others bytes code rec outside (ap (λ (y : StepKind). is_window y) insn))
+          role_seen before after n others bytes code rec Own (Ok tt) (sym (ap (λ (p : HandlerPhase). role_of p rec.kind) outside ∙ ap (λ (y : StepKind). role_of Outside y) insn))
           (judged_past before after after.uses n others bytes code rec (found_by before others bytes code false rec) tt false side.phase all_bits 0 phase_is before_side found past told.stores (ap count_of told.unknown) (omega arith)
           (ap (λ (c : ℕ). record before { uses = after.uses; phase = side.phase; steps = side.steps + 1; carried = c }) none) (stack_pointer before.uses.state) refl gone)

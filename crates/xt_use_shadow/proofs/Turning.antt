@@ -15,7 +15,8 @@ use Rattle.xt_frames.specs.Breaches.{Bounds}
 use Rattle.xt_frames.specs.Stacks.{Stack}
 use Rattle.xt_frames.proofs.Shown.{KeepsSp, sp_kept}
 use Rattle.xt_frames.proofs.StackSteps.{write_stack}
-use Rattle.xt_discipline.proofs.Seeing.{le_more, le_same}
+use Rattle.xt_discipline.proofs.Seeing.{le_same}
+use Rattle.xt_shadow.proofs.Turning.{le_more}
 use Rattle.xt_shadow.specs.InStep.{IsPlain}
 use Rattle.xt_shadow.proofs.Counts.{turn_count}
 use Rattle.xt_shadow.proofs.Stepping.{sp_same}

@@ -9,18 +9,14 @@ ghost use Rattle.xt_map.specs.Memory.{constant_byte};
 ghost use Rattle.xt_map.specs.Regions.{is_mapped};
 ghost use Rattle.xt_rows.specs.RowLaws.{IsRegister};
 ghost use Rattle.xt_core.specs.Runs.{IsRunOf};
-ghost use Rattle.xt_core.specs.Turns.{IsBegun};
-ghost use Rattle.xt_fetch.specs.Fetching.{Fetches, fetch_at};
+ghost use Rattle.xt_map.specs.Fetching.{Fetches, fetch_at};
 ghost use Rattle.xt_special.specs.Interrupts.{pending_of};
 ghost use Rattle.xt_trace.specs.Traces.{replies_past, reply_for};
-ghost use Rattle.xt_trace.specs.Worlds.{left_past};
 ghost use Rattle.xt_window.specs.Values.{WindowState};
 ghost use Rattle.xt_exec.specs.declared.regs.Regs.{Regs};
-ghost use Rattle.xt_exec.specs.Halves.{IsPlan, at_end};
-ghost use Rattle.xt_exec.specs.States.{file_state};
+ghost use Rattle.xt_exec.specs.Halves.{IsPlan};
 ghost use Rattle.xt_exec.specs.Turn.{demand, fetched_turn, planned_turn, turn};
 ghost use Rattle.xt_frames.specs.declared.kinds.HandlerPhase.TheVariants.{Outside};
-ghost use Rattle.xt_shadow.specs.InStep.{AgreesAt};
 ghost use Rattle.xt_shadow.specs.Lookups.{IsTested};
 ghost use Rattle.xt_use_walk.specs.MaskedBytes.{AreFull, IsSpared, KnowsBytes};
 ghost use Rattle.xt_use_walk.specs.Sides.{live_in};
@@ -30,15 +26,14 @@ use crate::file::UseFile;
 use crate::seeing::{End, see};
 use std::alloc::{AllocError, Global};
 use xt_codec::Fetch;
-use xt_core::{StartedTurn, end_turn};
+use xt_core::{Replies, StartedTurn, end_turn, head_of, left_past, started};
 use xt_exec::plans::{Effect, Plan};
 use xt_exec::{Regs, plan};
 use xt_frames::HandlerPhase;
 use xt_image::Image;
 use xt_map::{Access, Constants};
 use xt_rows::cause;
-use xt_shadow::{Lookup, Lookups, Replies, is_executed, is_in_vectors, is_sp};
-use xt_special::number;
+use xt_shadow::{Lookup, Lookups, agrees, is_executed, is_in_vectors, is_sp};
 use xt_trace::{Run, StepKind, StepRecord};
 use xt_use_walk::{Bytes, FirstUse, Side, side_of};
 use xt_uses::{ALL_BITS, Discipline};
@@ -69,25 +64,6 @@ pub struct UseShadow<'a> {
     /// Whether one of the next three windows may be a frame's. In step no turn moves a window, so
     /// this stays.
     pub near: bool,
-}
-
-/// The turns that are left after one with this record: none after a BREAK.
-#[inline(always)]
-fn left_past(rec: &StepRecord, left: u32) -> u32
-    ensures { result ≡ left_past rec.now left }
-{
-    match rec.kind {
-        StepKind::Stop => 0,
-        _ => left,
-    }
-}
-
-/// The end of a turn.
-#[inline(always)]
-fn tick(regs: &mut Regs<UseFile>)
-    ensures { file_state regs.new ≡ at_end (file_state regs.old) }
-{
-    xt_special::timers::tick(&mut regs.sr);
 }
 
 impl<'a> UseShadow<'a> {
@@ -145,22 +121,6 @@ impl<'a> UseShadow<'a> {
         }
     }
 
-    /// Whether the register, if there is one, has a value in the newest frame, and that is the
-    /// processor's.
-    #[inline(always)]
-    fn agrees(&self, register: Option<u8>) -> bool
-        requires { IsRegister register }
-        ensures { result ≡ true → AgreesAt self.now.seen (core_state self.now) register }
-    {
-        match register {
-            Some(number) => match self.seen[number as usize] {
-                Some(value) => value == self.regs.win.read(number),
-                None => false,
-            },
-            None => true,
-        }
-    }
-
     /// Whether each bit of the register, if there is one, is known.
     #[inline(always)]
     fn knows(&self, register: Option<u8>) -> bool
@@ -171,15 +131,6 @@ impl<'a> UseShadow<'a> {
             Some(number) => self.masks[number as usize] == ALL_BITS,
             None => true,
         }
-    }
-
-    /// Whether no window is in the way of an instruction whose registers lie up to so many windows
-    /// ahead.
-    #[inline(always)]
-    fn is_clear(&self, ahead: u8) -> bool
-        requires { ahead < 4 }
-    {
-        !self.near || self.regs.win.check(ahead).is_none()
     }
 
     /// Whether the instruction that was found at PC can be made in step.
@@ -195,11 +146,11 @@ impl<'a> UseShadow<'a> {
             && !self.regs.sr.excm()
             && self.regs.sr.vecbase() == self.vecbase
             && !is_in_vectors(self.vecbase, self.regs.pc)
-            && self.agrees(found.first)
-            && self.agrees(found.second)
+            && agrees(&self.seen, &self.regs, found.first)
+            && agrees(&self.seen, &self.regs, found.second)
             && self.knows(found.first)
             && self.knows(found.second)
-            && self.is_clear(found.ahead)
+            && (!self.near || self.regs.win.check(found.ahead).is_none())
     }
 
     /// Brings the frames up to date, unless the instruction that was found at PC can be made in step.
@@ -282,39 +233,6 @@ impl<'a> UseShadow<'a> {
         }
     }
 
-    /// The first half of the next turn. A turn that makes no access is whole.
-    #[inline(always)]
-    fn begin(&mut self, lookups: &mut Lookups) -> StartedTurn
-        requires inside { IsCore self.old }
-        ensures begun { IsBegun result (constant_byte lookups.old) (core_state self.old) (core_state self.new) }
-        ensures owb { (core_state self.old).control.ps.owb < 16 }
-        ensures started { IsStarted (constant_byte lookups.old) self.old self.new }
-        ensures replies { self.new.replies ≡ self.old.replies }
-        ensures code { lookups.new ≡ lookups.old }
-    {
-        let pc = self.regs.pc;
-        let ccount = self.regs.sr.register(number::CCOUNT);
-        let owb = self.regs.sr.owb();
-        let interrupt = self.regs.sr.register(number::INTERRUPT);
-        match self.start(lookups) {
-            Plan::Done(effect) => {
-                tick(&mut self.regs);
-                let record = StepRecord {
-                    pc,
-                    kind: effect.kind,
-                    write: effect.write,
-                    access: None,
-                    reply: 0,
-                    ccount,
-                    owb,
-                    interrupt,
-                };
-                StartedTurn::Local(record)
-            }
-            Plan::Bus(_, pending) => StartedTurn::Asks(pending),
-        }
-    }
-
     /// Before an access: brings the frames up to date, unless the access touches no live byte and
     /// reads known bits alone.
     #[inline(always)]
@@ -347,7 +265,9 @@ impl<'a> UseShadow<'a> {
         ensures spared { self.new.level ≡ true → IsSpared bytes.now result.access }
         ensures code { lookups.new ≡ lookups.old }
     {
-        match self.begin(lookups) {
+        let head = head_of(&self.regs);
+        let plan = self.start(lookups);
+        match started(&mut self.regs, head, plan) {
             StartedTurn::Local(record) => record,
             StartedTurn::Asks(pending) => {
                 self.ask(bytes, pending.access);
@@ -370,7 +290,7 @@ impl<'a> UseShadow<'a> {
         ensures code { lookups.new ≡ lookups.old }
     {
         let rec = self.next(lookups, bytes);
-        self.left = left_past(&rec, self.left - 1);
+        self.left = left_past(rec, self.left - 1);
         rec
     }
 

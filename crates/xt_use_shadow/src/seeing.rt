@@ -4,16 +4,15 @@
 ghost use Rattle.std.specs.Prelude.{◌≡◌, ◌+◌, ◌<◌, ◌^◌, ℕ, Bool, true, false, IfSome};
 ghost use Rattle.xt_map.specs.Memory.{constant_byte};
 ghost use Rattle.xt_map.specs.Regions.{is_mapped};
-ghost use Rattle.xt_frames.specs.HandlerSteps.{is_window};
-ghost use Rattle.xt_frames.specs.declared.kinds.HandlerPhase.TheVariants.{Outside};
+ghost use Rattle.xt_discipline.specs.declared.roles.Role.TheVariants.{Own};
+ghost use Rattle.xt_discipline.specs.Phases.{role_of};
 ghost use Rattle.xt_uses.specs.UseWalk.{use_seen};
 ghost use Rattle.xt_use_walk.specs.MaskedBytes.{AreFull, KnowsBytes};
 ghost use Rattle.xt_use_walk.specs.Sides.{IsUseSeen, IsUseSide, live_in, standing_of};
 ghost use Rattle.xt_use_shadow.specs.Shadows.{IsSawn};
 
 use std::alloc::AllocError;
-use xt_discipline::is_window;
-use xt_frames::HandlerPhase;
+use xt_discipline::{Role, phase_after, role_of};
 use xt_map::Constants;
 use xt_trace::StepRecord;
 use xt_use_walk::{Bytes, FirstUse, Side};
@@ -32,7 +31,7 @@ pub enum End {
     Lost,
 }
 
-/// Judges a record outside handler steps that begins none, without the short way of most records,
+/// Judges a record of the program itself, without the short way of most records,
 /// which this one is not taken to go.
 fn judge(
     side: &mut Side,
@@ -42,8 +41,7 @@ fn judge(
 ) -> Result<(), JudgeError>
     requires side { IsUseSide side.old }
     requires room { side.old.steps + 1 < 2 ^ 32 }
-    requires outside { side.old.phase ≡ Outside }
-    requires plain { is_window rec.now.kind ≡ false }
+    requires own { Own ≡ role_of side.old.phase rec.now.kind }
     requires served { IfSome rec.now.access (λ a. is_mapped a ≡ true) }
     requires full { AreFull bytes.old }
     ensures full { AreFull bytes.new }
@@ -52,7 +50,8 @@ fn judge(
         (use_seen (constant_byte code.now) side.old.uses.bounds (standing_of side.old) others masks rec.now) result }
 {
     let touched = bytes.touched(rec);
-    side.judge_whole(code, bytes, rec, false, HandlerPhase::Outside, &touched)
+    let next = phase_after(code, side.phase, rec);
+    side.judge_whole(code, bytes, rec, false, next, &touched)
 }
 
 /// Sees the core's next record, which is a handler step or judged. `special` says that it is taken not
@@ -73,15 +72,9 @@ fn look(
         → IsUseSeen side.old side.new bytes.new others masks
         (use_seen (constant_byte code.now) side.old.uses.bounds (standing_of side.old) others masks rec.now) result }
 {
-    match side.phase {
-        HandlerPhase::Outside => {
-            if special && !is_window(rec.kind) {
-                judge(side, code, bytes, rec)
-            } else {
-                side.see(code, bytes, rec)
-            }
-        }
-        HandlerPhase::InHandler | HandlerPhase::Nested => side.see(code, bytes, rec),
+    match role_of(side.phase, rec.kind) {
+        Role::Own if special => judge(side, code, bytes, rec),
+        _ => side.see(code, bytes, rec),
     }
 }
 

@@ -1,7 +1,6 @@
 -- A record of a core, as the definition of the walk sees it.
 use Rattle.std.proofs.Common.{◌≡◌, ℕ, suc, ◌+◌, ◌≤◌, Bool, true, false, ◌&&◌, ◌||◌, cond, Option, None, Result, Ok, Err, refl, sym, ◌∙◌, ap, subst, arith}
 use Rattle.std.specs.Prelude.{IfSome, OnOk}
-use Rattle.std.proofs.lemmas.Bool.{cond-true, cond-false}
 use Rattle.xt_map.specs.Regions.{is_mapped}
 use Rattle.xt_trace.specs.declared.record.StepRecord.{StepRecord}
 use Rattle.xt_frames.specs.declared.kinds.BreachKind.{BreachKind}
@@ -12,8 +11,12 @@ use Rattle.xt_frames.specs.declared.kinds.HandlerPhase.{HandlerPhase}
 use Rattle.xt_frames.specs.declared.kinds.HandlerPhase.TheVariants.{Outside, InHandler, Nested}
 use Rattle.xt_frames.specs.HandlerSteps.{is_window, phase_after}
 use Rattle.xt_frames.specs.Nesting.{is_nesting}
+use Rattle.xt_discipline.specs.declared.roles.Role.{Role}
+use Rattle.xt_discipline.specs.declared.roles.Role.TheVariants.{Own, Entry, HandlerStep, NestedStep}
+use Rattle.xt_discipline.specs.Phases.{role_of}
 use Rattle.xt_discipline.specs.ByteMarks.{Agrees, either, held_at}
-use Rattle.xt_discipline.proofs.Seeing.{at_last, breach_is, late, le_more, le_same, next_is}
+use Rattle.xt_discipline.proofs.ByRole.{chosen}
+use Rattle.xt_discipline.proofs.Seeing.{at_last, breach_is, le_same, next_is}
 use Rattle.xt_uses.specs.declared.testing.Touched.{Touched}
 use Rattle.xt_uses.specs.declared.told.Used.{Used}
 use Rattle.xt_uses.specs.declared.told.JudgeError.{JudgeError}
@@ -28,7 +31,7 @@ use Rattle.xt_uses.specs.UseWalk.{UseHandled, UseSeen, UseStanding, count_of, ha
 use Rattle.xt_use_walk.specs.declared.side.Bytes.{Bytes}
 use Rattle.xt_use_walk.specs.declared.side.Side.{Side}
 use Rattle.xt_use_walk.specs.MaskedBytes.{KnowsBytes, mask_at, without}
-use Rattle.xt_use_walk.specs.Sides.{BeginsUse, IsFollowed, IsUsePast, IsUseSeen, IsUseSide, forgets_byte, live_in, standing_of}
+use Rattle.xt_use_walk.specs.Sides.{IsFollowed, IsUsePast, IsUseSeen, IsUseSide, forgets_byte, live_in, standing_of}
 use Rattle.xt_use_walk.proofs.Following.{knows_same, saves_told}
 use Rattle.xt_use_walk.proofs.Served.{reply_same, swaps_same}
 
@@ -38,75 +41,26 @@ standing state fresh phase steps carried = record { state = state; fresh = fresh
 counted_more : (a b n : ℕ) → a ≤ b → n ≤ 1 → a + n ≤ b + 1
 counted_more a b n h k = omega arith
 
--- ---- handler steps
--- a core past one, in this phase
-handled : (old : Side) (bytes : Bytes) (others : ℕ → Bool) (masks : ℕ → ℕ) (next : HandlerPhase) (m : HandlerPhase) → next ≡ m → IsUseSide old → KnowsBytes old.core bytes (live_in old.uses) others masks
-    → IsUsePast old (record old { phase = next; steps = old.steps + 1 }) bytes others masks (standing old.uses.state false m (suc old.steps) old.carried)
-handled old bytes others masks next m n k known =
-    let past = k.past in
-    record {
-      side = record { core_is = k.core_is; end_is = k.end_is; low = k.low; high = k.high; past = le_more old.uses.next old.steps past; counted = le_more old.carried old.steps k.counted };
-      core_is = refl;
-      bounds_are = refl;
-      steps_are = next_is old.steps;
-      standing_is =
-          ap (λ (b : Bool). standing old.uses.state b next (old.steps + 1) old.carried) (late old.uses.fresh old.uses.next old.steps past)
-          ∙ (ap (λ (x : HandlerPhase). standing old.uses.state false x (old.steps + 1) old.carried) n ∙ ap (λ (s : ℕ). standing old.uses.state false m s old.carried) (next_is old.steps));
-      bytes_are = known;
-    }
+-- what the definition sees in a record, by what it is
+abbrev pub seen_as : (ℕ → ℕ) → Bounds → UseStanding → (ℕ → Bool) → (ℕ → ℕ) → StepRecord → Role → UseSeen
+seen_as code b st others masks rec Own = use_seen_judged code b st others masks false rec
+seen_as code b st others masks rec Entry = use_seen_window (window_use code rec st.state) code st rec
+seen_as code b st others masks rec HandlerStep = UseHandled (handled_past code st rec)
+seen_as code b st others masks rec NestedStep = use_seen_judged code b st others masks true rec
 
-pub handled_seen : (old new : Side) (bytes : Bytes) (others : ℕ → Bool) (masks : ℕ → ℕ) (code : ℕ → ℕ) (rec : StepRecord) (u : Unit) (next : HandlerPhase) → old.phase ≡ InHandler → is_nesting rec.kind ≡ false
-    → next ≡ phase_after code old.phase rec → IsUseSide old → new ≡ record old { phase = next; steps = old.steps + 1 } → KnowsBytes old.core bytes (live_in old.uses) others masks
-    → IsUseSeen old new bytes others masks (use_seen code old.uses.bounds (standing_of old) others masks rec) (Ok u)
-handled_seen old new bytes others masks code rec u next h q n k e known =
-    let st = handled_past code (standing_of old) rec in
-    let z : use_seen code old.uses.bounds (standing_of old) others masks rec ≡ UseHandled st =
-    ap (λ (m : HandlerPhase). use_seen_in m code old.uses.bounds (standing_of old) others masks rec) h ∙ cond-false (is_nesting rec.kind) _ _ q in
-    let P : Side → Type 0 = λ s. IsUsePast old s bytes others masks st in
-    let there : P (record old { phase = next; steps = old.steps + 1 }) = handled old bytes others masks next (phase_after code old.phase rec) n k known in
-    subst (λ (s : UseSeen). IsUseSeen old new bytes others masks s (Ok u)) (sym z) (subst P (sym e) there)
+seen_in_role : (code : ℕ → ℕ) (b : Bounds) (st : UseStanding) (others : ℕ → Bool) (masks : ℕ → ℕ) (rec : StepRecord) (p : HandlerPhase) → use_seen_in p code b st others masks rec ≡ seen_as code b st others masks rec (role_of p rec.kind)
+seen_in_role code b st others masks rec Outside = chosen (seen_as code b st others masks rec) (is_window rec.kind) Entry Own
+seen_in_role code b st others masks rec InHandler = chosen (seen_as code b st others masks rec) (is_nesting rec.kind) NestedStep HandlerStep
+seen_in_role code b st others masks rec Nested = refl
 
--- ---- records outside handler steps
-plain_seen : (old : Side) (others : ℕ → Bool) (masks : ℕ → ℕ) (code : ℕ → ℕ) (rec : StepRecord) → old.phase ≡ Outside → is_window rec.kind ≡ true
-    → use_seen code old.uses.bounds (standing_of old) others masks rec ≡ use_seen_window (window_use code rec old.uses.state) code (standing_of old) rec
-plain_seen old others masks code rec h w =
-    ap (λ (m : HandlerPhase). use_seen_in m code old.uses.bounds (standing_of old) others masks rec) h ∙ cond-true (is_window rec.kind) _ _ w
+pub seen_is : (code : ℕ → ℕ) (b : Bounds) (st : UseStanding) (others : ℕ → Bool) (masks : ℕ → ℕ) (rec : StepRecord) (role : Role) → role ≡ role_of st.phase rec.kind → use_seen code b st others masks rec ≡ seen_as code b st others masks rec role
+seen_is code b st others masks rec role e = seen_in_role code b st others masks rec st.phase ∙ ap (λ (r : Role). seen_as code b st others masks rec r) (sym e)
 
-plain_handles : (code : ℕ → ℕ) (old : HandlerPhase) (rec : StepRecord) → old ≡ Outside → is_window rec.kind ≡ true → phase_after code old rec ≡ InHandler
-plain_handles code old rec h w = ap (λ (m : HandlerPhase). phase_after code m rec) h ∙ cond-true (is_window rec.kind) _ _ w
-
-pub begin_seen : (old new : Side) (bytes : Bytes) (others : ℕ → Bool) (masks : ℕ → ℕ) (code : ℕ → ℕ) (rec : StepRecord) (r : Result Unit JudgeError) → old.phase ≡ Outside → is_window rec.kind ≡ true → IsUseSide old
-    → BeginsUse (window_use code rec old.uses.state) old r new → KnowsBytes old.core bytes (live_in old.uses) others masks
+pub role_seen : (old new : Side) (bytes : Bytes) (others : ℕ → Bool) (masks : ℕ → ℕ) (code : ℕ → ℕ) (rec : StepRecord) (role : Role) (r : Result Unit JudgeError) → role ≡ role_of old.phase rec.kind
+    → IsUseSeen old new bytes others masks (seen_as code old.uses.bounds (standing_of old) others masks rec role) r
     → IsUseSeen old new bytes others masks (use_seen code old.uses.bounds (standing_of old) others masks rec) r
-begin_seen old new bytes others masks code rec (Ok u) h w k begins known =
-    let st = handled_past code (standing_of old) rec in
-    let z = plain_seen old others masks code rec h w ∙ ap (λ (o : Option BreachKind). use_seen_window o code (standing_of old) rec) begins.0 in
-    let P : Side → Type 0 = λ s. IsUsePast old s bytes others masks st in
-    let there : P (record old { phase = InHandler; steps = old.steps + 1 }) = handled old bytes others masks InHandler (phase_after code old.phase rec) (sym (plain_handles code old.phase rec h w)) k known in
-    subst (λ (s : UseSeen). IsUseSeen old new bytes others masks s (Ok u)) (sym z) (subst P (sym begins.1) there)
-begin_seen old new bytes others masks code rec (Err (Breaks b)) h w k begins known =
-    let z = plain_seen old others masks code rec h w ∙ ap (λ (o : Option BreachKind). use_seen_window o code (standing_of old) rec) begins.0 in
-    let r : Result Unit JudgeError = Err (Breaks b) in
-    subst (λ (s : UseSeen). IsUseSeen old new bytes others masks s r) (sym z) (breach_is b old.core old.steps (begins.1 ∙ k.core_is) begins.2, begins.3)
-begin_seen old new bytes others masks code rec (Err (NoMemory e)) h w k begins known = tt
-
--- ---- judged records
-pub plain_judged : (old : Side) (others : ℕ → Bool) (masks : ℕ → ℕ) (code : ℕ → ℕ) (rec : StepRecord) → old.phase ≡ Outside → is_window rec.kind ≡ false
-    → use_seen code old.uses.bounds (standing_of old) others masks rec ≡ use_seen_judged code old.uses.bounds (standing_of old) others masks false rec
-plain_judged old others masks code rec h w =
-    ap (λ (m : HandlerPhase). use_seen_in m code old.uses.bounds (standing_of old) others masks rec) h ∙ cond-false (is_window rec.kind) _ _ w
-
-pub nesting_judged : (old : Side) (others : ℕ → Bool) (masks : ℕ → ℕ) (code : ℕ → ℕ) (rec : StepRecord) → old.phase ≡ InHandler → is_nesting rec.kind ≡ true
-    → use_seen code old.uses.bounds (standing_of old) others masks rec ≡ use_seen_judged code old.uses.bounds (standing_of old) others masks true rec
-nesting_judged old others masks code rec h w =
-    ap (λ (m : HandlerPhase). use_seen_in m code old.uses.bounds (standing_of old) others masks rec) h ∙ cond-true (is_nesting rec.kind) _ _ w
-
-pub nested_judged : (old : Side) (others : ℕ → Bool) (masks : ℕ → ℕ) (code : ℕ → ℕ) (rec : StepRecord) → old.phase ≡ Nested
-    → use_seen code old.uses.bounds (standing_of old) others masks rec ≡ use_seen_judged code old.uses.bounds (standing_of old) others masks true rec
-nested_judged old others masks code rec h = ap (λ (m : HandlerPhase). use_seen_in m code old.uses.bounds (standing_of old) others masks rec) h
-
-pub step_seen : (old new : Side) (bytes : Bytes) (others : ℕ → Bool) (masks : ℕ → ℕ) (s t : UseSeen) (r : Result Unit JudgeError) → s ≡ t → IsUseSeen old new bytes others masks t r → IsUseSeen old new bytes others masks s r
-step_seen old new bytes others masks s t r same judged = subst (λ (x : UseSeen). IsUseSeen old new bytes others masks x r) (sym same) judged
+role_seen old new bytes others masks code rec role r e seen =
+    subst (λ (x : UseSeen). IsUseSeen old new bytes others masks x r) (sym (seen_is code old.uses.bounds (standing_of old) others masks rec role e)) seen
 
 -- what a record touches, by these live bytes and masks
 pub touched_for : (core : ℕ) (x : Bytes) (own others : ℕ → Bool) (masks : ℕ → ℕ) (rec : StepRecord) (t : Touched) → IfSome rec.access (λ a. is_mapped a ≡ true)

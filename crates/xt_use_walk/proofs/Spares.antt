@@ -10,7 +10,7 @@ use Rattle.xt_uses.specs.declared.testing.Touched.{Touched}
 use Rattle.xt_uses.specs.UseParts.{IsTouched}
 use Rattle.xt_uses.specs.Words.{all_bits}
 use Rattle.xt_use_walk.specs.declared.side.Bytes.{Bytes}
-use Rattle.xt_use_walk.specs.MaskedBytes.{IsSpared, KnowsAccess, KnowsBytes, SparesAccess, mask_at}
+use Rattle.xt_use_walk.specs.MaskedBytes.{IsSpared, KnowsAccess, mask_at}
 use Rattle.xt_use_walk.proofs.Seen.{touched_for}
 use Rattle.xt_use_walk.proofs.Sparing.{touched_known}
 

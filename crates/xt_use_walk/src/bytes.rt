@@ -19,10 +19,12 @@ const BYTES: u32 = 0x5_6000;
 /// The masks with which the bytes of memory are read, region by region. A byte in a live save area has the mask 0.
 #[derive(Drop)]
 pub struct ByteMasks {
-    masks: Vec<u8>,
+    /// 0x56000 of them.
+    pub masks: Vec<u8>,
 }
 
 /// The place of a byte of memory among them.
+#[inline(always)]
 fn place(addr: u32) -> usize
     requires { is_byte addr ≡ true }
     ensures { result ≡ place addr }
@@ -51,6 +53,7 @@ impl ByteMasks {
     }
 
     /// The mask of a byte of memory.
+    #[inline(always)]
     fn at(&self, addr: u32) -> u8
         requires full { IsFull self.now }
         requires byte { is_byte addr ≡ true }
@@ -60,6 +63,7 @@ impl ByteMasks {
     }
 
     /// The bits that are not known of a byte of memory.
+    #[inline(always)]
     fn lacks(&self, addr: u32) -> u32
         requires full { IsFull self.now }
         requires byte { is_byte addr ≡ true }
@@ -70,6 +74,7 @@ impl ByteMasks {
     }
 
     /// The bits that are not known of two bytes of memory.
+    #[inline(always)]
     fn lacks_two(&self, addr: u32) -> u32
         requires full { IsFull self.now }
         requires bytes { AreBytes addr 2 }
@@ -154,6 +159,7 @@ impl ByteMasks {
     }
 
     /// The bits that are not known of so many bytes of memory.
+    #[inline(always)]
     fn lacks_of(&self, addr: u32, size: u8) -> u32
         requires full { IsFull self.now }
         requires size { is_size size ≡ true }
@@ -168,6 +174,7 @@ impl ByteMasks {
     }
 
     /// The mask of the reply to an access.
+    #[inline(always)]
     pub fn reply_mask(&self, access: Option<Access>) -> u32
         requires full { IsFull self.now }
         requires served { IfSome access (λ a. is_mapped a ≡ true) }
@@ -184,6 +191,7 @@ impl ByteMasks {
     }
 
     /// A byte of memory gets this mask.
+    #[inline(always)]
     pub fn put(&mut self, addr: u32, mask: u8)
         requires full { IsFull self.old }
         requires byte { is_byte addr ≡ true }

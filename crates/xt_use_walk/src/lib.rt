@@ -7,6 +7,7 @@ pub mod laws;
 mod side;
 mod walk;
 
+pub use bytes::ByteMasks;
 pub use judging::judge_uses;
-pub use side::{Bytes, Side};
+pub use side::{Bytes, Side, stored_byte};
 pub use walk::{FirstUse, Uses, opening_bytes, side_of};

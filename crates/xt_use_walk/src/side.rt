@@ -20,10 +20,10 @@ ghost use Rattle.xt_use_walk.specs.Sides.{AreaBytes, BeginsUse, IsFollowed, IsUs
 
 use crate::bytes::ByteMasks;
 use xt_discipline::{
-    Areas, Change, Held, Stacked, areas, change_areas, change_bytes, closes, held_at, is_window,
-    newest, newest_sp, returns, saves,
+    Areas, Change, Held, Role, Stacked, areas, change_areas, change_bytes, held_at, newest,
+    newest_sp, phase_after, role_of, saves,
 };
-use xt_frames::{HandlerPhase, is_nesting};
+use xt_frames::HandlerPhase;
 use xt_map::{Access, Constants, Kind, is_in_memory};
 use xt_trace::StepRecord;
 use xt_uses::{ALL_BITS, JudgeError, Lack, Touched, UseCore};
@@ -50,7 +50,7 @@ pub struct Side {
 }
 
 /// Of a value that is stored, the mask of its byte of this number.
-fn stored_byte(stored: u32, k: u32) -> u8
+pub fn stored_byte(stored: u32, k: u32) -> u8
     requires { k < 4 }
     ensures { (addr : ℕ) → result ≡ stored_byte stored addr (addr + k) }
 {
@@ -406,30 +406,15 @@ impl Side {
             → IsUseSeen self.old self.new bytes.new others masks
             (use_seen (constant_byte code.now) self.old.uses.bounds (standing_of self.old) others masks rec.now) result }
     {
-        match self.phase {
-            HandlerPhase::Outside => {
-                if is_window(rec.kind) {
-                    return self.begin(code, rec);
-                }
-                self.judge(code, bytes, rec, false, HandlerPhase::Outside)
-            }
-            HandlerPhase::InHandler => {
-                if is_nesting(rec.kind) {
-                    return self.judge(code, bytes, rec, true, HandlerPhase::Nested);
-                }
-                if closes(code, rec) {
-                    self.phase = HandlerPhase::Outside;
-                }
+        let next = phase_after(code, self.phase, rec);
+        match role_of(self.phase, rec.kind) {
+            Role::Own => self.judge(code, bytes, rec, false, next),
+            Role::NestedStep => self.judge(code, bytes, rec, true, next),
+            Role::Entry => self.begin(code, rec),
+            Role::HandlerStep => {
+                self.phase = next;
                 self.steps += 1;
                 Ok(())
-            }
-            HandlerPhase::Nested => {
-                let next = if returns(code, rec) {
-                    HandlerPhase::InHandler
-                } else {
-                    HandlerPhase::Nested
-                };
-                self.judge(code, bytes, rec, true, next)
             }
         }
     }

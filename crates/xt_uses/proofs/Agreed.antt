@@ -9,7 +9,7 @@ use Rattle.xt_map.specs.declared.access.Access.{Access}
 use Rattle.xt_map.specs.declared.access.Kind.TheVariants.{Load, Store, Cas}
 use Rattle.xt_map.specs.Regions.{is_mapped, is_constant, is_memory, is_size, is_uart, region_of}
 use Rattle.xt_special.specs.Access.{no_sets, no_set, set_to, SpecialWrites}
-use Rattle.xt_fetch.specs.Code.{code_number}
+use Rattle.xt_map.specs.Code.{code_number}
 use Rattle.xt_rows.specs.declared.outcome.ReplyTarget.{ReplyTarget}
 use Rattle.xt_rows.specs.declared.outcome.Flow.TheVariants.{Goes}
 use Rattle.xt_rows.specs.declared.outcome.Outcome.{Outcome}

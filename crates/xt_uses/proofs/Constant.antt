@@ -9,7 +9,7 @@ use Rattle.xt_trace.specs.declared.record.RegWrite.{RegWrite}
 use Rattle.xt_trace.specs.declared.record.StepRecord.{StepRecord}
 use Rattle.xt_rows.specs.Kinds.{is_entry, is_return, moved_to}
 use Rattle.xt_frames.specs.Frames.{Frame, FrameState}
-use Rattle.xt_fetch.specs.Fetching.{fetch_at}
+use Rattle.xt_map.specs.Fetching.{fetch_at}
 use Rattle.xt_frames.specs.FrameStep.{FrameTurn, with_inputs}
 use Rattle.xt_frames.specs.Nesting.{begins, current}
 use Rattle.xt_frames.specs.Breaches.{inputs_of}

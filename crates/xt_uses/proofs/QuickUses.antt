@@ -13,7 +13,7 @@ use Rattle.xt_trace.specs.declared.record.RegWrite.{RegWrite}
 use Rattle.xt_trace.specs.declared.record.StepKind.{StepKind}
 use Rattle.xt_trace.specs.declared.record.StepKind.TheVariants as kind
 use Rattle.xt_trace.specs.declared.record.StepRecord.{StepRecord}
-use Rattle.xt_fetch.specs.Fetching.{Fetched, Fetches, fetch_at}
+use Rattle.xt_map.specs.Fetching.{Fetched, Fetches, fetch_at}
 use Rattle.xt_rows.specs.Kinds.{is_entry, is_return, moved_to}
 use Rattle.xt_rows.specs.RowLaws.{IsProperWrite, IsWord}
 use Rattle.xt_frames.specs.declared.breach.Limits.{Limits}

@@ -6,7 +6,7 @@ use Rattle.xt_map.specs.declared.access.Access.{Access}
 use Rattle.xt_map.specs.Regions.{is_mapped, is_size, kind_fits, is_memory, is_uart, region_of, uart_takes}
 use Rattle.xt_map.specs.Touching.{is_store}
 use Rattle.xt_trace.specs.declared.record.StepRecord.{StepRecord}
-use Rattle.xt_fetch.specs.Fetching.{Fetched, fetch_at}
+use Rattle.xt_map.specs.Fetching.{Fetched, fetch_at}
 use Rattle.xt_isa.specs.declared.Insn.{Insn}
 use Rattle.xt_frames.specs.Frames.{FrameState}
 use Rattle.xt_frames.specs.FrameStep.{with_inputs}

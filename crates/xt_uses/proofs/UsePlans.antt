@@ -7,7 +7,7 @@ use Rattle.xt_isa.specs.declared.Insn.TheVariants as insn
 use Rattle.xt_isa.specs.declared.shift.Shift.TheVariants as shift
 use Rattle.xt_special.specs.Interrupts.{pending_of}
 use Rattle.xt_trace.specs.declared.record.StepKind.TheVariants as kind
-use Rattle.xt_fetch.specs.Fetching.{Fetched, Fetches, fetch_at}
+use Rattle.xt_map.specs.Fetching.{Fetched, Fetches, fetch_at}
 use Rattle.xt_codec.specs.Fetches.{IsFetched}
 use Rattle.xt_codec.specs.declared.fetch.Fetch.{Fetch}
 use Rattle.xt_codec.specs.declared.fetch.Fetch.TheVariants as fetch

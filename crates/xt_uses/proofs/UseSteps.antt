@@ -9,7 +9,7 @@ use Rattle.xt_isa.specs.declared.shift.Shift.TheVariants as shift
 use Rattle.xt_special.specs.Interrupts.{pending_of}
 use Rattle.xt_trace.specs.declared.record.RegWrite.{RegWrite}
 use Rattle.xt_trace.specs.declared.record.StepRecord.{StepRecord}
-use Rattle.xt_fetch.specs.Fetching.{Fetched, Fetches, Fails, SpellsNothing, fetch_at}
+use Rattle.xt_map.specs.Fetching.{Fetched, Fetches, Fails, SpellsNothing, fetch_at}
 use Rattle.xt_rows.specs.Kinds.{moved_to}
 use Rattle.xt_frames.specs.declared.holes.UndefinedParts.{UndefinedParts}
 use Rattle.xt_frames.specs.declared.holes.Nested.{Nested}

@@ -7,7 +7,7 @@ use Rattle.std.proofs.lemmas.List.{set-get_or}
 use Rattle.xt_isa.specs.declared.Insn.{Insn}
 use Rattle.xt_special.specs.Control.{special_of}
 use Rattle.xt_trace.specs.declared.record.RegWrite.{RegWrite}
-use Rattle.xt_fetch.specs.Fetching.{Fetched}
+use Rattle.xt_map.specs.Fetching.{Fetched}
 use Rattle.xt_rows.specs.Operands.{reads, special_reads}
 use Rattle.xt_frames.specs.declared.holes.Nested.{Nested}
 use Rattle.xt_frames.specs.Frames.{FrameState, value_or_zero}

@@ -3,7 +3,7 @@
 use Rattle.std.specs.Prelude.{ℕ, ◌==◌, nat_lt, if◌then◌else◌, Option, Some, None}
 use Rattle.std.specs.Prelude.{slice_index_or}
 use Rattle.xt_trace.specs.declared.record.StepRecord.{StepRecord}
-use Rattle.xt_fetch.specs.Fetching.{Fetched, Fetches, fetch_at}
+use Rattle.xt_map.specs.Fetching.{Fetched, Fetches, fetch_at}
 use Rattle.xt_rows.specs.Operands.{reads}
 use Rattle.xt_frames.specs.declared.holes.Nested.{Nested}
 use Rattle.xt_frames.specs.Breaches.{inputs_of}

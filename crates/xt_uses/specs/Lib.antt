@@ -7,8 +7,8 @@
 -- count, a special register, whether a register is written, or a byte that is sent. `Lacks` says
 -- which registers of an instruction are shown. `UseWalk`, `UseParts`, `UseLevels` and `Snapshots`
 -- carry the proof of the walk. `Verdicts` of `xt_use_walk` joins `FirstUse` to an image, a run and two lists
--- of records. `Held` of `xt_use_report` says what is proved of a run's uses, in the words of an
--- image and its run, and `UsesText`, `Breaches` and `UseFindings` what is printed. `xt_use_run` defines
+-- of records. `Held` of `xt_report` says what is proved of a run's uses, in the words of an
+-- image and its run, and `UsesText`, `Breaches` and `UseFindings` what is printed. `xt_simulation` defines
 -- nothing that a command's contract rests on: `UseRunLaws` states its laws for the course of a run, and
 -- `Knowing` says what the machine of uses knows of a frame state that has the processor's numbers.
 pub mod Disciplines

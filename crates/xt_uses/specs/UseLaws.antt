@@ -24,7 +24,7 @@ use Rattle.xt_map.specs.Touching.{IsMemory, is_store}
 use Rattle.xt_special.specs.declared.ps.Ps.{Ps}
 use Rattle.xt_special.specs.Access.{SpecialWrites, is_eps, no_set, set_to}
 use Rattle.xt_special.specs.Control.{special_of}
-use Rattle.xt_fetch.specs.Code.{AreBytes}
+use Rattle.xt_map.specs.Code.{AreBytes}
 use Rattle.xt_trace.specs.declared.record.RegWrite.{RegWrite}
 use Rattle.xt_trace.specs.declared.record.StepRecord.{StepRecord}
 use Rattle.xt_rows.specs.declared.outcome.Effect.{Effect}

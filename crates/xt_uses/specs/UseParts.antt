@@ -12,7 +12,7 @@ use Rattle.xt_frames.specs.declared.view.NextEvent.TheVariants as plan
 use Rattle.xt_trace.specs.declared.options.Options.{Options}
 use Rattle.xt_trace.specs.declared.record.RegWrite.{RegWrite}
 use Rattle.xt_trace.specs.declared.record.StepRecord.{StepRecord}
-use Rattle.xt_fetch.specs.Fetching.{fetch_at}
+use Rattle.xt_map.specs.Fetching.{fetch_at}
 use Rattle.xt_frames.specs.declared.kinds.Breach.{Breach}
 use Rattle.xt_frames.specs.declared.kinds.BreachKind.{BreachKind}
 use Rattle.xt_frames.specs.declared.breach.Case.{Case}

@@ -44,7 +44,6 @@ use xt_trace::{Options, Stack as Range, StepRecord};
 
 /// A core of the machine of uses, as it walks over the judged records of its core. Contracts see its number, its stack range and
 /// VECBASE, its state, whether EPC1 has what was last written, and the number of the record after the last judged one.
-#[derive(Drop)]
 pub struct UseCore {
     core: u8,
     limits: Limits,
@@ -55,6 +54,21 @@ pub struct UseCore {
     fresh: bool,
     // The number of the record after the last judged one.
     next: u64,
+}
+
+// A `drop` of its own is one call at each place where a value is dropped.
+impl Drop for UseCore {
+    fn drop(self) {
+        let UseCore {
+            core: _,
+            limits: _,
+            top: _,
+            callers: _,
+            kept: _,
+            fresh: _,
+            next: _,
+        } = self;
+    }
 }
 
 impl Model for UseCore {

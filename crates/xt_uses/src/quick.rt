@@ -6,7 +6,7 @@ ghost use Rattle.std.specs.Prelude.{◌≡◌, ℕ, Bool, List, IfSome, None, fa
 ghost use Rattle.xt_isa.specs.declared.Insn.{Insn};
 ghost use Rattle.xt_map.specs.Memory.{constant_byte};
 ghost use Rattle.xt_map.specs.Regions.{is_mapped};
-ghost use Rattle.xt_fetch.specs.Fetching.{Fetches, fetch_at};
+ghost use Rattle.xt_map.specs.Fetching.{Fetches, fetch_at};
 ghost use Rattle.xt_frames.specs.declared.view.Caller.{Caller};
 ghost use Rattle.xt_frames.specs.Frames.{Frame, FrameState, value_or_zero};
 ghost use Rattle.xt_frames.specs.KeptFrameState.{AreKept};

@@ -7,7 +7,7 @@ ghost use Rattle.xt_map.specs.Memory.{constant_byte};
 ghost use Rattle.xt_map.specs.Regions.{is_mapped};
 ghost use Rattle.xt_special.specs.Control.{Control};
 ghost use Rattle.xt_special.specs.Shape.{IsPs};
-ghost use Rattle.xt_fetch.specs.Fetching.{fetch_at};
+ghost use Rattle.xt_map.specs.Fetching.{fetch_at};
 ghost use Rattle.xt_rows.specs.RowLaws.{IsAny, IsProperWrite};
 ghost use Rattle.xt_frames.specs.declared.holes.UndefinedParts.{UndefinedParts};
 ghost use Rattle.xt_frames.specs.Breaches.{fresh_after, inputs_of};

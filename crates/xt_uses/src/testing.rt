@@ -5,7 +5,7 @@ ghost use Rattle.std.specs.Prelude.{◌≡◌, ℕ, Bool, List, false, true};
 ghost use Rattle.xt_isa.specs.Ranges.{in_range};
 ghost use Rattle.xt_map.specs.Memory.{constant_byte};
 ghost use Rattle.xt_codec.specs.Fetches.{IsFetched, IsGoodFetch};
-ghost use Rattle.xt_fetch.specs.Fetching.{Fetched, fetch_at};
+ghost use Rattle.xt_map.specs.Fetching.{Fetched, fetch_at};
 ghost use Rattle.xt_frames.specs.Breaches.{first_shown};
 ghost use Rattle.xt_frames.specs.Frames.{Frame};
 ghost use Rattle.xt_frames.specs.FrameStep.{FrameTurn, step_with_inputs};

@@ -5,17 +5,26 @@ ghost use Rattle.std.specs.Prelude.{◌≡◌};
 ghost use Rattle.xt_window.specs.Ring.{cleared_regs};
 
 use crate::Windows;
-use std::marker::Model;
+use std::marker::{Model, PhantomData};
 
-/// The plain form of a register file with windows.
-#[derive(Clone, Copy)]
-pub struct WindowFile {
+/// The plain form of a register file with windows, for the user `U`, a type that only names it. The compiler makes a turn for each
+/// type of register file. So the turn of a user with a name of its own is one piece with the user's loop, and a turn that others
+/// call too would stay a call with calls of its own.
+#[derive_where(Clone, Copy)]
+pub struct OwnFile<U> {
     regs: [u32; 64],
     base: u8,
     start: u16,
+    user: PhantomData<U>,
 }
 
-impl Model for WindowFile {
+/// The name of those who need no turn of their own.
+pub struct Anyone;
+
+/// The plain register file of those who need no turn of their own.
+pub type WindowFile = OwnFile<Anyone>;
+
+impl<U> Model for OwnFile<U> {
     ghost use Rattle.std.specs.Prelude.{◌<◌};
     ghost use Rattle.xt_window.specs.Values.{WindowState};
 
@@ -25,7 +34,7 @@ impl Model for WindowFile {
 
     ghost invariant = { λ w. w.base < 16 };
 
-    ghost inverse = { λ v. record { regs = v.regs; base = v.base; start = v.start } };
+    ghost inverse = { λ v. record { regs = v.regs; base = v.base; start = v.start; user = record {} } };
 }
 
 #[tactic(auto, unfolding(crate::specs::Ring::cleared_regs))]
@@ -35,20 +44,21 @@ fn cleared_regs() -> [u32; 64]
     [0; 64]
 }
 
-impl WindowFile {
+impl<U> OwnFile<U> {
     /// Registers that hold 0, with WINDOWBASE 0 and the bit of window 0 alone.
-    pub fn new() -> WindowFile
+    pub fn new() -> OwnFile<U>
         ensures { result ≡ record { regs = cleared_regs; base = 0; start = 1 } }
     {
-        WindowFile {
+        OwnFile {
             regs: cleared_regs(),
             base: 0,
             start: 1,
+            user: PhantomData,
         }
     }
 }
 
-impl Windows for WindowFile {
+impl<U> Windows for OwnFile<U> {
     ghost regs = { λ w. w.regs };
 
     ghost base = { λ w. w.base };

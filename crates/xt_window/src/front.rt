@@ -6,19 +6,32 @@ ghost use Rattle.xt_window.specs.Ring.{cleared_regs, place};
 ghost use Rattle.xt_window.specs.FrontAndRing.{written_back};
 
 use crate::Windows;
-use std::marker::Model;
+use std::marker::{Model, PhantomData};
 
 /// A register file with windows that keeps the visible registers apart. A number of the ring that the front covers is
-/// out of date until the front is written back, which `set_base` does.
-#[derive(Drop)]
-pub struct FrontFile {
+/// out of date until the front is written back, which `set_base` does. It is for the user `U`, as an `OwnFile` is.
+pub struct FrontFile<U> {
     front: [u32; 16],
     ring: [u32; 64],
     base: u8,
     start: u16,
+    user: PhantomData<U>,
 }
 
-impl Model for FrontFile {
+// A `drop` of its own is one call at each place where a value is dropped.
+impl<U> Drop for FrontFile<U> {
+    fn drop(self) {
+        let FrontFile {
+            front: _,
+            ring: _,
+            base: _,
+            start: _,
+            user: _,
+        } = self;
+    }
+}
+
+impl<U> Model for FrontFile<U> {
     ghost use Rattle.std.specs.Prelude.{◌<◌};
     ghost use Rattle.xt_window.specs.Values.{WindowState};
     ghost use Rattle.xt_window.specs.FrontAndRing.{written_back};
@@ -53,10 +66,10 @@ fn load(front: &mut [u32; 16], ring: &[u32; 64], base: u8)
     }
 }
 
-impl FrontFile {
+impl<U> FrontFile<U> {
     /// Registers that hold 0, with WINDOWBASE 0 and the bit of window 0 alone.
     #[tactic(auto, unfolding(crate::specs::FrontAndRing::written_back, crate::specs::Ring::cleared_regs))]
-    pub fn new() -> FrontFile
+    pub fn new() -> FrontFile<U>
         ensures { result ≡ record { regs = cleared_regs; base = 0; start = 1 } }
     {
         FrontFile {
@@ -64,11 +77,12 @@ impl FrontFile {
             ring: [0; 64],
             base: 0,
             start: 1,
+            user: PhantomData,
         }
     }
 }
 
-impl Windows for FrontFile {
+impl<U> Windows for FrontFile<U> {
     ghost regs = { λ w. w.regs };
 
     ghost base = { λ w. w.base };

@@ -9,6 +9,6 @@ pub mod laws;
 pub mod ring;
 mod windows;
 
-pub use file::WindowFile;
+pub use file::{Anyone, OwnFile, WindowFile};
 pub use front::FrontFile;
 pub use windows::{Overflow, Return, Windows};

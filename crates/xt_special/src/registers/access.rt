@@ -85,7 +85,7 @@ impl Special {
         let interrupt = self.register(number::INTERRUPT);
         self.set_registers(written_by(n, v, interrupt));
         if n == number::PS {
-            self.set_ps(v);
+            self.ps = Ps::of_word(v);
         }
         true
     }

@@ -2,7 +2,7 @@
 #![tactic(auto)]
 
 ghost use Rattle.std.specs.Prelude.{◌≡◌, ◌<◌};
-ghost use Rattle.xt_special.specs.Control.{ps_of, ps_word};
+ghost use Rattle.xt_special.specs.Control.{ps_word};
 ghost use Rattle.xt_special.specs.Shape.{IsPs};
 
 use super::Special;
@@ -15,14 +15,6 @@ impl Special {
         ensures { result ≡ ps_word self.now.ps }
     {
         self.ps.word()
-    }
-
-    /// Sets the fields of PS from a word, and changes nothing else. It is a write of register 230.
-    #[inline(always)]
-    pub fn set_ps(&mut self, v: u32)
-        ensures { self.new ≡ record self.old { ps = ps_of v } }
-    {
-        self.ps = Ps::of_word(v);
     }
 
     /// The fields of PS.
@@ -89,14 +81,6 @@ impl Special {
         self.ps.um
     }
 
-    /// Sets that field of PS, and changes nothing else.
-    #[inline(always)]
-    pub fn set_um(&mut self, v: bool)
-        ensures { self.new ≡ record self.old { ps = record self.old.ps { um = v } } }
-    {
-        self.ps.um = v;
-    }
-
     /// The protection ring, 0 to 3.
     #[inline(always)]
     pub fn ring(&self) -> u8
@@ -104,17 +88,6 @@ impl Special {
         ensures range { result < 4 }
     {
         self.ps.ring
-    }
-
-    /// Sets that field of PS, and changes nothing else.
-    ///
-    /// Condition: `v` is below 4.
-    #[inline(always)]
-    pub fn set_ring(&mut self, v: u8)
-        requires { v < 4 }
-        ensures { self.new ≡ record self.old { ps = record self.old.ps { ring = v } } }
-    {
-        self.ps.ring = v;
     }
 
     /// The old window base, 0 to 15.
@@ -146,30 +119,11 @@ impl Special {
         self.ps.callinc
     }
 
-    /// Sets that field of PS, and changes nothing else.
-    ///
-    /// Condition: `v` is below 4.
-    #[inline(always)]
-    pub fn set_callinc(&mut self, v: u8)
-        requires { v < 4 }
-        ensures { self.new ≡ record self.old { ps = record self.old.ps { callinc = v } } }
-    {
-        self.ps.callinc = v;
-    }
-
     /// Whether window overflows are detected.
     #[inline(always)]
     pub fn woe(&self) -> bool
         ensures { result ≡ self.now.ps.woe }
     {
         self.ps.woe
-    }
-
-    /// Sets that field of PS, and changes nothing else.
-    #[inline(always)]
-    pub fn set_woe(&mut self, v: bool)
-        ensures { self.new ≡ record self.old { ps = record self.old.ps { woe = v } } }
-    {
-        self.ps.woe = v;
     }
 }

@@ -2,7 +2,7 @@ use Rattle.std.proofs.Common.{◌≡◌, ◌++◌, drop}
 use Rattle.std.specs.Prelude.{map}
 use Rattle.std.specs.Option.{option_map}
 use Rattle.xt_asm.specs.Contexts.{site_of}
-use Rattle.xt_mnemonic.specs.Operands.{all_known}
+use Rattle.xt_names.specs.Operands.{all_known}
 use Rattle.xt_asm.specs.Operands.{argument_of}
 use Rattle.xt_asm.proofs.operands.arguments_of.Given as goal
 

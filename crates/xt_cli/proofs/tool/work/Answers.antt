@@ -1,6 +1,6 @@
 use Rattle.std.proofs.Common.{ℕ, ◌≤◌, List, length, refl, sym, subst}
 use Rattle.xt_cli.specs.declared.tool.Job.{Job}
-use Rattle.xt_status.specs.Calls.{ends}
+use Rattle.xt_report.specs.Calls.{ends}
 use Rattle.xt_cli.specs.Puts.{Puts, Replays}
 use Rattle.xt_cli.proofs.Working.{NeverBeyond, never_beyond, puts_finish, puts_makes, replays_finish, replays_makes, whole_unless}
 use Rattle.xt_cli.proofs.tool.work.Goals as goal

@@ -1,6 +1,6 @@
 use Rattle.std.proofs.Common.{rules}
 use Rattle.std.specs.Prelude.{map, string_bytes}
-use Rattle.xt_status.specs.Calls.{Ends}
+use Rattle.xt_report.specs.Calls.{Ends}
 use Rattle.xt_cli.proofs.Refusing.{after_both, answered, answered_completely, is_threaded}
 use Rattle.xt_cli.specs.Orders.{order_of}
 use Rattle.xt_cli.specs.Top.{Answers, IsComplete}

@@ -4,7 +4,7 @@ use Rattle.xt_isa.specs.Spelling.{length_of, spelled_insn, fields_at}
 use Rattle.xt_map.specs.Memory.{constant_byte}
 use Rattle.xt_codec.specs.declared.Decoded.TheVariants as decoded
 use Rattle.xt_codec.specs.DecoderAnswers.{answer}
-use Rattle.xt_fetch.specs.Fetching.{Fetches, SpellsNothing, read_as}
+use Rattle.xt_map.specs.Fetching.{Fetches, SpellsNothing, read_as}
 use Rattle.xt_codec.proofs.fetch.spelled_at.Goals as goal
 
 good : (b0 n : ℕ) (x : Option Insn) (i : Insn) → decoded.Good i n ≡ answer b0 x → read_as x (length_of b0) ≡ Fetches i n

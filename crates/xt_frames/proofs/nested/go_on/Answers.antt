@@ -1,6 +1,6 @@
 use Rattle.std.proofs.Common.{◌≡◌, Bool, false, List, Some, sym, ◌∙◌, ap, subst}
 use Rattle.std.proofs.lemmas.Bool.{cond-false}
-use Rattle.xt_fetch.specs.Fetching.{Fetched, Fetches}
+use Rattle.xt_map.specs.Fetching.{Fetched, Fetches}
 use Rattle.xt_codec.specs.Fetches.{IsFetched}
 use Rattle.xt_codec.specs.declared.fetch.Fetch.{Fetch}
 use Rattle.xt_frames.specs.declared.holes.Nested.{Nested}

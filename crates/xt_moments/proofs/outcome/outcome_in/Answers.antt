@@ -1,6 +1,6 @@
 use Rattle.std.proofs.Common.{◌≡◌, ℕ, List, ◌++◌, sym, ap, ◌∙◌}
-use Rattle.xt_changes.proofs.Putting.{changes_send_none}
-use Rattle.xt_changes.specs.Changed.{contents_of}
+use Rattle.xt_search.proofs.Putting.{changes_send_none}
+use Rattle.xt_search.specs.Changed.{contents_of}
 use Rattle.xt_moments.specs.Outcomes.{MomentOutcome}
 use Rattle.xt_moments.proofs.outcome.outcome_in.Goals as goal
 

@@ -1,6 +1,6 @@
 use Rattle.std.proofs.Common.{◌≡◌, map, take}
 use Rattle.xt_map.specs.Serving.{number_at}
-use Rattle.xt_changes.specs.Changed.{contents_of}
+use Rattle.xt_search.specs.Changed.{contents_of}
 use Rattle.xt_moments.proofs.outcome.values.Given as goal
 
 abbrev pub invariant-loop-word : goal.invariant-loop-word

@@ -8,7 +8,7 @@ use Rattle.xt_exec.specs.Chips.{processor}
 use Rattle.xt_exec.specs.State.{State}
 use Rattle.xt_exec.specs.Turn.{turn}
 use Rattle.xt_core.specs.Runs.{code_of, opening_of}
-use Rattle.xt_changes.specs.Changed.{contents_of}
+use Rattle.xt_search.specs.Changed.{contents_of}
 use Rattle.xt_outcomes.specs.Orders.{with_both}
 use Rattle.xt_outcomes.specs.SpotRaces.{next_of}
 use Rattle.xt_outcomes.specs.Spots.{Spot}

@@ -1,5 +1,5 @@
 use Rattle.std.proofs.Common.{◌∙◌, subst, sym}
-use Rattle.xt_changes.specs.Changed.{IsLean}
+use Rattle.xt_search.specs.Changed.{IsLean}
 use Rattle.xt_core.specs.Runs.{memory_of, turns_of}
 use Rattle.xt_outcomes.proofs.Opens.{opens}
 use Rattle.xt_outcomes.proofs.opening.open.Goals as goal

@@ -1,6 +1,6 @@
 use Rattle.std.proofs.Common.{sym, ap, ◌∙◌, subst}
 use Rattle.xt_map.specs.declared.contents.MemoryContents.{MemoryContents}
-use Rattle.xt_changes.specs.Changed.{IsLean}
+use Rattle.xt_search.specs.Changed.{IsLean}
 use Rattle.xt_core.specs.Runs.{memory_of}
 use Rattle.xt_outcomes.specs.Dead.{spot_forgotten}
 use Rattle.xt_outcomes.specs.KeptWorlds.{spot_of}

@@ -2,8 +2,8 @@ use Rattle.std.proofs.Common.{◌≡◌, ℕ, List, ◌++◌, map, sym, ap, ◌�
 use Rattle.xt_map.specs.Serving.{number_at}
 use Rattle.xt_trace.specs.Traces.{stop_where}
 use Rattle.xt_exec.specs.State.{State}
-use Rattle.xt_changes.proofs.Putting.{changes_send_none}
-use Rattle.xt_changes.specs.Changed.{ChangesState, contents_of}
+use Rattle.xt_search.proofs.Putting.{changes_send_none}
+use Rattle.xt_search.specs.Changed.{ChangesState, contents_of}
 use Rattle.xt_outcomes.specs.Spots.{Side}
 use Rattle.xt_outcomes.proofs.outcome.outcome_of.Goals as goal
 

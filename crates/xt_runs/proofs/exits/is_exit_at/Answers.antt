@@ -1,6 +1,6 @@
 use Rattle.std.proofs.Common.{⊎_elim, sym, ap, subst, ◌∙◌}
 use Rattle.xt_map.specs.Memory.{constant_byte}
-use Rattle.xt_fetch.specs.Fetching.{fetch_at}
+use Rattle.xt_map.specs.Fetching.{fetch_at}
 use Rattle.xt_codec.specs.Fetches.{IsFetched}
 use Rattle.xt_codec.specs.declared.fetch.Fetch.{Fetch}
 use Rattle.xt_runs.specs.Exits.{is_exit_at}

@@ -2,7 +2,7 @@ use Rattle.std.proofs.Common.{rules, subst}
 use Rattle.std.specs.Io.KnownBytes.{Appends}
 use Rattle.xt_io.specs.Whole.{AppendsPrefix}
 use Rattle.xt_runs.proofs.Numbered.{gen_done, gen_failed, gen_memory}
-use Rattle.xt_status.proofs.Writing.{prefix_of, was_appended}
+use Rattle.xt_report.proofs.Writing.{prefix_of, was_appended}
 use Rattle.xt_runs.proofs.generating.generate.Goals as goal
 use Rattle.xt_runs.proofs.generating.generate.Goals.{in-Ok-write_text, in-Err-Failed}
 

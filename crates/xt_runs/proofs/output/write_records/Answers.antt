@@ -1,10 +1,10 @@
 use Rattle.std.proofs.Common.{◌≡◌, ℕ, List, arith, Err, rules, sym, subst}
 use Rattle.xt_trace.specs.Lines.{line_text}
 use Rattle.xt_runs.proofs.Lines.{line_first, no_line_left, one_less}
-use Rattle.xt_status.proofs.Gathering.{gathered_on, refused_gathering}
-use Rattle.xt_status.proofs.Writing.{wanting, written_after}
-use Rattle.xt_status.specs.Pieces.{Gathers}
-use Rattle.xt_status.specs.Writes.{Writes}
+use Rattle.xt_report.proofs.Gathering.{gathered_on, refused_gathering}
+use Rattle.xt_report.proofs.Writing.{wanting, written_after}
+use Rattle.xt_report.specs.Pieces.{Gathers}
+use Rattle.xt_report.specs.Writes.{Writes}
 use Rattle.xt_runs.proofs.output.write_records.Goals as goal
 
 pub returns-in_err-text-in-Some : goal.returns-in_err-text-in-Some

@@ -1,7 +1,7 @@
 use Rattle.std.proofs.Common.{◌≡◌, ◌++◌, Err, rules}
 use Rattle.xt_report.specs.Reports.{report_text}
 use Rattle.xt_runs.specs.Traces.{trace_text}
-use Rattle.xt_status.proofs.Writing.{was_appended, refused_early, written_after}
+use Rattle.xt_report.proofs.Writing.{was_appended, refused_early, written_after}
 use Rattle.xt_runs.proofs.output.write_traced.Goals as goal
 
 pub returns-in_err-write_report : goal.returns-in_err-write_report

@@ -1,6 +1,6 @@
 use Rattle.std.proofs.Common.{◌≡◌, Err, rules}
 use Rattle.xt_runs.specs.Traces.{lines_from}
-use Rattle.xt_status.proofs.Writing.{was_appended, refused_early, written_after}
+use Rattle.xt_report.proofs.Writing.{was_appended, refused_early, written_after}
 use Rattle.xt_runs.proofs.output.write_traces.Goals as goal
 
 pub returns-in_err-write_records : goal.returns-in_err-write_records

@@ -3,11 +3,11 @@ use Rattle.std.specs.Io.KnownBytes.{Appends}
 use Rattle.xt_io.specs.Whole.{AppendsPrefix}
 use Rattle.xt_trace.specs.declared.run.Run.{Run}
 use Rattle.xt_core.specs.Runs.{IsRunOf}
-use Rattle.xt_status.specs.Calls.{ends}
+use Rattle.xt_report.specs.Calls.{ends}
 use Rattle.xt_runs.specs.Told.{verdict_in}
 use Rattle.xt_runs.specs.Verdicts.{whole_of}
 use Rattle.xt_runs.proofs.Endings.{done, failed, is_known, memory, of_input, same_run}
-use Rattle.xt_status.proofs.Writing.{prefix_of, was_appended}
+use Rattle.xt_report.proofs.Writing.{prefix_of, was_appended}
 use Rattle.xt_runs.proofs.running.run_source.Goals as goal
 use Rattle.xt_runs.proofs.running.run_source.Goals.{in-Ok-write_told, in-Err-Failed}
 

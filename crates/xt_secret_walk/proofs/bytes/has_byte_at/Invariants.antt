@@ -1,5 +1,5 @@
 use Rattle.std.proofs.Common.{◌≡◌, drop}
-use Rattle.xt_secrets.specs.WatchedRuns.{has_byte_at}
+use Rattle.xt_simulation.specs.WatchedRuns.{has_byte_at}
 use Rattle.xt_secret_walk.proofs.bytes.has_byte_at.Given as goal
 
 abbrev pub invariant-loop-range : goal.invariant-loop-range

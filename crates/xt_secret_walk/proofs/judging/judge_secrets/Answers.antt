@@ -1,5 +1,5 @@
 use Rattle.xt_core.proofs.Scheduled.{has_schedule}
-use Rattle.xt_secrets.specs.WatchedRuns.{has_byte_at, watched_of}
+use Rattle.xt_simulation.specs.WatchedRuns.{has_byte_at, watched_of}
 use Rattle.xt_secret_walk.proofs.judging.judge_secrets.Goals as goal
 
 pub judge-requires-clause-schedule : goal.judge-requires-clause-schedule

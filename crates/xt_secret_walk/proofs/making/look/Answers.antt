@@ -1,6 +1,6 @@
 use Rattle.std.proofs.Common.{Some, sym, ap, ◌∙◌}
 use Rattle.xt_exec.specs.States.{file_state}
-use Rattle.xt_fetch.specs.Fetching.{Fetched}
+use Rattle.xt_map.specs.Fetching.{Fetched}
 use Rattle.xt_secret_walk.specs.declared.seen.Seen.{Seen}
 use Rattle.xt_secret_walk.specs.SeenWords.{knowledge_of, seen_of}
 use Rattle.xt_secret_walk.proofs.making.look.Goals as goal

@@ -2,8 +2,8 @@ use Rattle.std.proofs.Common.{◌≡◌, List, ℕ, refl, sym, ap, ◌∙◌}
 use Rattle.xt_record.specs.Fields.{image_in}
 use Rattle.xt_record.specs.Format.{run_in}
 use Rattle.xt_replay.specs.Shown.{ReplayState}
-use Rattle.xt_status.specs.Inputs.{recording_refusal}
-use Rattle.xt_status.specs.declared.status.Status.TheVariants as status
+use Rattle.xt_report.specs.Inputs.{recording_refusal}
+use Rattle.xt_report.specs.declared.status.Status.TheVariants as status
 use Rattle.xt_session.proofs.Replying.{session_missed, session_over, session_refused}
 use Rattle.xt_session.proofs.call.session.Goals as goal
 

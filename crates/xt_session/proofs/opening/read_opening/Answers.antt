@@ -1,6 +1,6 @@
 use Rattle.std.proofs.Common.{◌≡◌, ◌<◌, ◌≤◌, length, inr, Some, None, sym, ap, ◌∙◌, subst, arith}
 use Rattle.xt_record.specs.declared.fault.RecordFault.TheVariants as record_fault
-use Rattle.xt_status.specs.declared.status.Status.TheVariants as status
+use Rattle.xt_report.specs.declared.status.Status.TheVariants as status
 use Rattle.xt_session.specs.Reads.{Misses}
 use Rattle.xt_session.specs.Session.{lines_limit, number_in, recording_limit}
 use Rattle.xt_session.proofs.Heading.{bytes_unread, large_refused, line_unread, misses_bytes, misses_line, misses_number, none_refused}

@@ -1,14 +1,14 @@
 use Rattle.std.proofs.Common.{◌≡◌, ℕ, ◌+◌, Bool, Result, Ok, Err, length, false, refl, sym, ◌∙◌, ap, subst, rules}
 use Rattle.xt_map.specs.Memory.{constant_byte}
 use Rattle.xt_frames.specs.declared.kinds.Breach.{Breach}
-use Rattle.xt_frames.specs.Judging.{seen_record, seen_step}
+use Rattle.xt_frames.specs.Judging.{seen_record}
 use Rattle.xt_frames.specs.Walked.{Walked, found_in}
+use Rattle.xt_discipline.specs.declared.roles.Role.TheVariants.{Own}
 use Rattle.xt_discipline.specs.declared.side.Side.{Side}
 use Rattle.xt_discipline.specs.ByteMarks.{Agrees, either, held_at}
 use Rattle.xt_discipline.specs.Sides.{IsSeen, live_in, standing_of}
 use Rattle.xt_discipline.proofs.Known.{loads_for, saves_for}
-use Rattle.xt_discipline.proofs.Seeing.{breach_where, found_by, judged_breaks, judged_marks, judged_past, moves_where, past_where, plain_judged, side_past, step_seen}
-use Rattle.xt_shadow.proofs.Saw.{phase_stays}
+use Rattle.xt_discipline.proofs.Seeing.{breach_where, found_by, judged_breaks, judged_marks, judged_past, moves_where, past_where, role_seen, side_past}
 use Rattle.xt_shadow.proofs.seeing.judge.Goals as goal
 
 pub judge_whole-requires : goal.judge_whole-requires
@@ -35,8 +35,7 @@ returns-in_err-judge_whole-clause-seen c others stale known =
     let same : c.from_residual.result ≡ Err b = search rules in
     let new : Side = record { core = s.core; hi = s.hi; frames = c.judge_whole.new.self; phase = s.phase; steps = s.steps } in
     let bad : Result Unit Breach = Err b in
-    let there = step_seen s new c.args.marks.now others stale (seen_record code s.frames.bounds (standing_of s) others stale rec) (seen_step found code s.frames.bounds (standing_of s) others stale false rec) bad
-    (plain_judged s others stale code rec c.requires.outside c.requires.plain)
+    let there = role_seen s new c.args.marks.now others stale code rec Own bad c.requires.own
     (judged_breaks s new c.args.marks.now others stale code false rec found b c.requires.side breach) in
     subst (λ (r : Result Unit Breach). IsSeen s new c.args.marks.now others stale (seen_record code s.frames.bounds (standing_of s) others stale rec) r) (sym same) there
 
@@ -54,7 +53,7 @@ follow-requires c =
     let is : c.judge_whole.result ≡ Ok c.in_ok-judge_whole.field-0 = c.in_ok-judge_whole.was in
     let past = past_where s.frames c.judge_whole.new.self code s.steps false rec found c.judge_whole.result c.in_ok-judge_whole.field-0 is
     (c.judge_whole.ensures.judged (either live0 live1) stale (c.saves-saves.ensures live0 live1 stale own) (c.loads-stale.ensures live0 live1 stale own)) in
-    side_past s c.judge_whole.new.self code false rec s.phase c.requires.side past.1
+    side_past s c.judge_whole.new.self code false rec c.phase_after-next.result c.requires.side past.1
 
 pub returns-clause-seen : goal.returns-clause-seen
 returns-clause-seen c others stale known =
@@ -74,7 +73,6 @@ returns-clause-seen c others stale known =
     let len : length c.store.new.marks ≡ 0x52000 = store.len ∙ c.requires.len in
     let followed = c.follow.ensures.follows s.frames.state moves c.depth-depth.ensures.depth c.newest-call.ensures in
     let marks = judged_marks s f moves c.args.marks.now c.store.new.marks c.follow.new.marks others stale rec.access c.requires.side bounds len c.depth-depth.ensures.stack c.follow.ensures.stack known store.bytes followed in
-    let new : Side = record { core = s.core; hi = s.hi; frames = f; phase = s.phase; steps = s.steps + 1 } in
-    step_seen s new c.follow.new.marks others stale (seen_record code s.frames.bounds (standing_of s) others stale rec) (seen_step found code s.frames.bounds (standing_of s) others stale false rec) (Ok tt)
-    (plain_judged s others stale code rec c.requires.outside c.requires.plain)
-    (judged_past s new f c.follow.new.marks others stale code rec found tt false s.phase (phase_stays code s.phase rec c.requires.outside c.requires.plain) c.requires.side past.0 past.1 refl marks)
+    let new : Side = record { core = s.core; hi = s.hi; frames = f; phase = c.phase_after-next.result; steps = s.steps + 1 } in
+    role_seen s new c.follow.new.marks others stale code rec Own (Ok tt) c.requires.own
+    (judged_past s new f c.follow.new.marks others stale code rec found tt false c.phase_after-next.result c.phase_after-next.ensures c.requires.side past.0 past.1 refl marks)

@@ -2,7 +2,7 @@ use Rattle.std.proofs.Common.{◌≡◌, ℕ, List, ap, ◌∙◌}
 use Rattle.xt_image.specs.declared.image.Image.{Image}
 use Rattle.xt_trace.specs.declared.run.Run.{Run}
 use Rattle.xt_record.specs.Fields.{image_in}
-use Rattle.xt_status.specs.Inputs.{recording_refusal}
+use Rattle.xt_report.specs.Inputs.{recording_refusal}
 use Rattle.xt_tools.specs.Commands.{trace_output, trace_text}
 use Rattle.xt_tools.proofs.Putting.{recording_is_fault, refused_puts, written_puts}
 use Rattle.xt_tools.proofs.recordings.trace.Goals as goal

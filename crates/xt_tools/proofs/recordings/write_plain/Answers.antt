@@ -1,5 +1,5 @@
 use Rattle.std.proofs.Common.{ℕ, List, subst}
-use Rattle.xt_status.specs.Writes.{Writes}
+use Rattle.xt_report.specs.Writes.{Writes}
 use Rattle.xt_tools.proofs.Lined.{traced_alone}
 use Rattle.xt_tools.proofs.recordings.write_plain.Goals as goal
 

@@ -1,8 +1,8 @@
 use Rattle.std.proofs.Common.{◌≡◌, ◌++◌, ℕ, List, arith, length, Err, rules, sym, ap, subst, ◌∙◌}
 use Rattle.std.specs.List.{concat}
-use Rattle.xt_status.proofs.Gathering.{gathered_on, refused_gathering}
-use Rattle.xt_status.proofs.Writing.{wanting, written_after}
-use Rattle.xt_status.specs.Writes.{Writes}
+use Rattle.xt_report.proofs.Gathering.{gathered_on, refused_gathering}
+use Rattle.xt_report.proofs.Writing.{wanting, written_after}
+use Rattle.xt_report.specs.Writes.{Writes}
 use Rattle.xt_tools.proofs.Lined.{given_line, no_line_left}
 use Rattle.xt_tools.proofs.turns.write_lines.Goals as goal
 

@@ -1,5 +1,5 @@
 use Rattle.std.proofs.Common.{Bool, List, Option, false, ⊎_elim, sym, ◌∙◌, ap, subst}
-use Rattle.xt_fetch.specs.Fetching.{Fetched}
+use Rattle.xt_map.specs.Fetching.{Fetched}
 use Rattle.xt_codec.specs.Fetches.{IsFetched}
 use Rattle.xt_codec.specs.declared.fetch.Fetch.{Fetch}
 use Rattle.xt_frames.specs.declared.kinds.BreachKind.{BreachKind}

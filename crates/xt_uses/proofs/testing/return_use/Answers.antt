@@ -1,6 +1,6 @@
 use Rattle.std.proofs.Common.{◌≡◌, Bool, List, false, sym, ◌∙◌, ap}
 use Rattle.xt_map.specs.Memory.{constant_byte}
-use Rattle.xt_fetch.specs.Fetching.{Fetches, fetch_at}
+use Rattle.xt_map.specs.Fetching.{Fetches, fetch_at}
 use Rattle.xt_frames.specs.Breaches.{Test, first_shown}
 use Rattle.xt_frames.specs.KeptFrameState.{shown_tests, state_at}
 use Rattle.xt_uses.specs.UseBreaches.{use_tests, uses_unknown}

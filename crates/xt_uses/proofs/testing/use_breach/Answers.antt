@@ -1,5 +1,5 @@
 use Rattle.std.proofs.Common.{ltb, sym, ◌∙◌, ap, subst}
-use Rattle.xt_fetch.specs.Fetching.{fetch_at}
+use Rattle.xt_map.specs.Fetching.{fetch_at}
 use Rattle.xt_frames.specs.declared.view.NextEvent.{NextEvent}
 use Rattle.xt_frames.specs.FrameStep.{step_with_inputs}
 use Rattle.xt_frames.specs.KeptFrameState.{IsPlan, state_at}

@@ -1,6 +1,6 @@
 use Rattle.std.proofs.Common.{◌≡◌, sym, ◌∙◌, ap, subst}
 use Rattle.xt_map.specs.Memory.{constant_byte}
-use Rattle.xt_fetch.specs.Fetching.{Fetched, Fails, SpellsNothing}
+use Rattle.xt_map.specs.Fetching.{Fetched, Fails, SpellsNothing}
 use Rattle.xt_codec.specs.Fetches.{IsFetched}
 use Rattle.xt_codec.specs.declared.fetch.Fetch.{Fetch}
 use Rattle.xt_frames.specs.FrameStep.{fetched_step}

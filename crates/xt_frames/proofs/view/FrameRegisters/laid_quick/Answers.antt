@@ -1,6 +1,6 @@
 use Rattle.std.proofs.Common.{sym, ◌∙◌, ap}
 use Rattle.xt_map.specs.Memory.{constant_byte}
-use Rattle.xt_fetch.specs.Fetching.{fetch_at}
+use Rattle.xt_map.specs.Fetching.{fetch_at}
 use Rattle.xt_frames.proofs.Mild.{quick_or}
 use Rattle.xt_frames.proofs.view.FrameRegisters.laid_quick.Goals as goal
 

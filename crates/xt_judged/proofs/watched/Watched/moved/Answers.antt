@@ -1,5 +1,5 @@
 use Rattle.std.proofs.Common.{◌≡◌, ◌<◌, ap, ◌∙◌, arith}
-use Rattle.xt_changes.specs.Changed.{contents_of}
+use Rattle.xt_search.specs.Changed.{contents_of}
 use Rattle.xt_exec.specs.State.{State}
 use Rattle.xt_outcomes.specs.KeptWorlds.{moved_spot, spot_of}
 use Rattle.xt_outcomes.specs.Spots.{Spot}

@@ -1,6 +1,6 @@
 use Rattle.std.proofs.Common.{◌≡◌, false, ap, sym, ◌∙◌}
 use Rattle.xt_map.specs.Memory.{constant_byte}
-use Rattle.xt_changes.specs.Changed.{contents_of}
+use Rattle.xt_search.specs.Changed.{contents_of}
 use Rattle.xt_special.specs.Numbers as number
 use Rattle.xt_trace.specs.Worlds.{answer}
 use Rattle.xt_exec.specs.States.{file_state}

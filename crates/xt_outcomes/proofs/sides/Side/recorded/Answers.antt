@@ -2,7 +2,7 @@ use Rattle.std.proofs.Common.{◌-◌, ◌||◌, ap, ◌∙◌}
 use Rattle.xt_map.specs.Memory.{constant_byte}
 use Rattle.xt_trace.specs.Calls.{is_stop}
 use Rattle.xt_trace.specs.Worlds.{left_past}
-use Rattle.xt_changes.specs.Changed.{contents_of}
+use Rattle.xt_search.specs.Changed.{contents_of}
 use Rattle.xt_exec.specs.State.{State}
 use Rattle.xt_exec.specs.States.{file_state}
 use Rattle.xt_outcomes.specs.Spots.{Side, more_kept, state_kept}

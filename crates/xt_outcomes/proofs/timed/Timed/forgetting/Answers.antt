@@ -1,6 +1,6 @@
 use Rattle.std.proofs.Common.{ap, ◌∙◌}
 use Rattle.xt_map.specs.declared.contents.MemoryContents.{MemoryContents}
-use Rattle.xt_changes.specs.Changed.{contents_of}
+use Rattle.xt_search.specs.Changed.{contents_of}
 use Rattle.xt_exec.specs.State.{State}
 use Rattle.xt_outcomes.specs.Dead.{side_forgotten}
 use Rattle.xt_outcomes.specs.Spots.{Side, Spot}

@@ -1,6 +1,6 @@
 use Rattle.std.proofs.Common.{ap, ◌∙◌}
 use Rattle.xt_map.specs.Memory.{constant_byte}
-use Rattle.xt_changes.specs.Changed.{contents_of}
+use Rattle.xt_search.specs.Changed.{contents_of}
 use Rattle.xt_exec.specs.States.{file_state}
 use Rattle.xt_outcomes.specs.Dead.{side_forgotten}
 use Rattle.xt_outcomes.proofs.Turned.{memory_is, next_is, past_is}

@@ -2,7 +2,7 @@ use Rattle.std.proofs.Common.{◌≡◌, ℕ, ap, ◌∙◌}
 use Rattle.std.specs.Prelude.{◌==◌}
 use Rattle.xt_map.specs.Memory.{constant_byte}
 use Rattle.xt_trace.specs.Worlds.{answer}
-use Rattle.xt_fetch.specs.Fetching.{fetch_at}
+use Rattle.xt_map.specs.Fetching.{fetch_at}
 use Rattle.xt_exec.specs.States.{file_state}
 use Rattle.xt_exec.specs.Turn.{demand}
 use Rattle.xt_outcomes.specs.Dead.{are_fit, dead_at, reads_of}

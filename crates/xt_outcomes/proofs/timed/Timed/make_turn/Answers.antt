@@ -1,6 +1,6 @@
 use Rattle.std.proofs.Common.{◌≡◌, ap, sym, ◌∙◌}
 use Rattle.xt_map.specs.Memory.{constant_byte}
-use Rattle.xt_changes.specs.Changed.{contents_of}
+use Rattle.xt_search.specs.Changed.{contents_of}
 use Rattle.xt_exec.specs.Chips.{processor}
 use Rattle.xt_outcomes.specs.KeptWorlds.{spot_of}
 use Rattle.xt_outcomes.proofs.Moving.{moved_first}

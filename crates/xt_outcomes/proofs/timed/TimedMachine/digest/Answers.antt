@@ -1,5 +1,5 @@
 use Rattle.std.proofs.Common.{◌≡◌, ◌+◌, ◌*◌, ◌%◌, ◌^◌, ap, ◌∙◌}
-use Rattle.xt_changes.specs.Changed.{digest_of}
+use Rattle.xt_search.specs.Changed.{digest_of}
 use Rattle.xt_outcomes.specs.SideMarks.{side_mark}
 use Rattle.xt_outcomes.proofs.timed.TimedMachine.digest.Goals as goal
 

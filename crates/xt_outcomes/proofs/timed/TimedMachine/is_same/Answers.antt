@@ -1,6 +1,6 @@
 use Rattle.std.proofs.Common.{◌≡◌, ◌∙◌, sym, subst}
 use Rattle.std.proofs.lemmas.Bool.{true≢false}
-use Rattle.xt_changes.specs.Changed.{IsLean, contents_of}
+use Rattle.xt_search.specs.Changed.{IsLean, contents_of}
 use Rattle.xt_outcomes.specs.KeptWorlds.{spot_of}
 use Rattle.xt_outcomes.proofs.timed.TimedMachine.is_same.Goals as goal
 

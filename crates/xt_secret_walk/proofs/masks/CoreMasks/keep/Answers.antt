@@ -1,7 +1,7 @@
 use Rattle.std.proofs.Common.{◌≡◌, true, length, set, refl, sym, ◌∙◌, arith, rules}
 use Rattle.std.proofs.lemmas.Bool.{cond-false, cond-true}
 use Rattle.xt_frames.specs.Marks.{holds_marks}
-use Rattle.xt_secrets.specs.Learning.{with_mask}
+use Rattle.xt_simulation.specs.Learning.{with_mask}
 use Rattle.xt_secret_walk.specs.declared.masks.CoreMasks.{CoreMasks}
 use Rattle.xt_secret_walk.specs.SeenWords.{special_mask}
 use Rattle.xt_secret_walk.proofs.Knowing.{special_put}

@@ -1,9 +1,9 @@
 use Rattle.std.proofs.Common.{ℕ, Bool, refl, sym, ◌∙◌}
 use Rattle.xt_map.specs.Memory.{constant_byte}
 use Rattle.xt_use_walk.proofs.Served.{reply_same}
-use Rattle.xt_secrets.specs.WatchedRuns.{has_byte_at}
+use Rattle.xt_simulation.specs.WatchedRuns.{has_byte_at}
 use Rattle.xt_secret_walk.specs.declared.leak.FirstLeak.{FirstLeak}
-use Rattle.xt_secret_walk.specs.KnownBytes.{mask_at}
+use Rattle.xt_use_walk.specs.MaskedBytes.{mask_at}
 use Rattle.xt_secret_walk.proofs.Turning.{goes_on, leaks, none_left}
 use Rattle.xt_secret_walk.proofs.side.Side.turn.Goals as goal
 

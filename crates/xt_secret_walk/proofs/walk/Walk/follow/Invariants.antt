@@ -1,6 +1,6 @@
 use Rattle.std.proofs.Common.{drop, length}
 use Rattle.xt_trace.specs.Schedule.{schedule_in}
-use Rattle.xt_secrets.specs.FirstLeak.{Watched}
+use Rattle.xt_simulation.specs.FirstLeak.{Watched}
 use Rattle.xt_secret_walk.specs.Walked.{IsOn}
 use Rattle.xt_secret_walk.proofs.walk.Walk.follow.Given as goal
 

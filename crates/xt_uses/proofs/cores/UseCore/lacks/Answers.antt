@@ -2,7 +2,7 @@ use Rattle.std.proofs.Common.{ℕ, Option, ◌≡◌, ⊎_elim, refl, sym, ◌�
 use Rattle.xt_map.specs.Memory.{constant_byte}
 use Rattle.xt_codec.specs.Fetches.{IsFetched}
 use Rattle.xt_codec.specs.declared.fetch.Fetch.{Fetch}
-use Rattle.xt_fetch.specs.Fetching.{Fetched, Fetches, fetch_at}
+use Rattle.xt_map.specs.Fetching.{Fetched, Fetches, fetch_at}
 use Rattle.xt_rows.specs.RowLaws.{IsRegister}
 use Rattle.xt_rows.proofs.Registers.{reads_registers}
 use Rattle.xt_frames.specs.Breaches.{inputs_of}

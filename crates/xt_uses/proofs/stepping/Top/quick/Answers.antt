@@ -1,6 +1,6 @@
 use Rattle.std.proofs.Common.{◌≡◌, ℕ, List, None, Option, sym, ◌∙◌, ap}
 use Rattle.xt_map.specs.Memory.{constant_byte}
-use Rattle.xt_fetch.specs.Fetching.{Fetches, fetch_at}
+use Rattle.xt_map.specs.Fetching.{Fetches, fetch_at}
 use Rattle.xt_frames.specs.Frames.{FrameState, value_or_zero}
 use Rattle.xt_frames.specs.KeptFrameState.{state_at}
 use Rattle.xt_frames.proofs.Quickly.{IsOver, none_is, quick_kept, seen_is}

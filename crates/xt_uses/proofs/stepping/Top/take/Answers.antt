@@ -7,7 +7,7 @@ use Rattle.xt_special.specs.declared.ps.Ps.{Ps}
 use Rattle.xt_special.specs.Shape.{IsPs}
 use Rattle.xt_trace.specs.declared.record.RegWrite.{RegWrite}
 use Rattle.xt_trace.specs.declared.record.StepKind.{StepKind}
-use Rattle.xt_fetch.specs.Fetching.{Fetched, fetch_at}
+use Rattle.xt_map.specs.Fetching.{Fetched, fetch_at}
 use Rattle.xt_frames.specs.declared.holes.UndefinedParts.{UndefinedParts}
 use Rattle.xt_frames.specs.declared.view.Call.{Call}
 use Rattle.xt_frames.specs.Frames.{FrameState}

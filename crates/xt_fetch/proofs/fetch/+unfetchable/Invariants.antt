@@ -1,4 +1,0 @@
-use Rattle.xt_fetch.proofs.fetch.+unfetchable.Given as goal
-
-abbrev pub decreases-unfetchable : goal.decreases-unfetchable
-decreases-unfetchable l = l.len

@@ -1,5 +1,0 @@
-use Rattle.xt_fetch.proofs.Fetches.{fetched_range}
-use Rattle.xt_fetch.proofs.laws.fetched_is_in_range.Goals as goal
-
-pub returns : goal.returns
-returns c = fetched_range

@@ -1,9 +1,0 @@
-//! A law of fetching. It is the contract of a function that does nothing.
-#![tactic(auto)]
-
-ghost use Rattle.xt_fetch.specs.FetchLaws.{FetchedIsInRange};
-
-/// What is fetched from bytes has its operands in their ranges.
-pub fn fetched_is_in_range()
-    ensures { FetchedIsInRange }
-{}

@@ -1,5 +1,0 @@
-use Rattle.xt_mnemonic.proofs.Encoding.{one_encoding}
-use Rattle.xt_mnemonic.proofs.laws.instructions_have_one_encoding.Goals as goal
-
-pub returns : goal.returns
-returns c = one_encoding

@@ -1,5 +1,0 @@
-use Rattle.xt_mnemonic.proofs.EncodingBytes.{one_list}
-use Rattle.xt_mnemonic.proofs.laws.instructions_have_one_list_of_bytes.Goals as goal
-
-pub returns : goal.returns
-returns c = one_list

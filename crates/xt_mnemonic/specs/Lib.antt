@@ -1,5 +1,0 @@
-pub mod InsnBytes
-pub mod Encodings
-pub mod Lengths
-pub mod Making
-pub mod Operands

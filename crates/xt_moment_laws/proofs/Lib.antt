@@ -1,5 +1,0 @@
-mod Masks
-mod Clocks
-mod Moments
-mod Worlds
-mod OneOutcome

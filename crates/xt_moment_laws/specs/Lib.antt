@@ -1,2 +1,0 @@
-pub mod MomentLaws
-pub mod WorldLaws

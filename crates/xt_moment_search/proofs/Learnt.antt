@@ -1,0 +1,255 @@
+-- What is known after a turn where nothing is known of the clocks.
+use Rattle.std.proofs.Common.{◌≡◌, ◌≢◌, ℕ, Bool, true, false, cond, eqb, ◌||◌, Option, Some, None}
+use Rattle.std.proofs.Common.{refl, sym, ap, ◌∙◌, subst, ⊎_elim}
+use Rattle.std.proofs.lemmas.Bool.{cases_eq, cond-false, eqb-true, or_cases, true≢false}
+use Rattle.xt_isa.specs.declared.Insn.{Insn}
+use Rattle.xt_isa.specs.declared.Insn.TheVariants as insn
+use Rattle.xt_isa.specs.declared.system.System.TheVariants as system
+use Rattle.xt_isa.specs.declared.system.SpecialName.TheVariants as SpecialName
+use Rattle.xt_isa.specs.Ranges.{in_range}
+use Rattle.xt_trace.specs.declared.record.RegWrite.{RegWrite}
+use Rattle.xt_window.specs.Ring.{place}
+use Rattle.xt_rows.specs.Kinds.{moved_to}
+use Rattle.xt_rows.specs.Operands.{reads, special_reads}
+use Rattle.xt_exec.specs.State.{State}
+use Rattle.xt_frames.specs.Marks.{holds_marks}
+use Rattle.xt_uses.specs.declared.words.Word.{Word}
+use Rattle.xt_uses.specs.declared.discipline.Discipline.TheVariants.{Lenient}
+use Rattle.xt_uses.specs.Words.{all_bits}
+use Rattle.xt_uses.specs.Known.{result_mask, system_mask}
+use Rattle.xt_uses.specs.UseLaws.{pointer_mask}
+use Rattle.xt_simulation.specs.Knowledge.{Knowledge, first_special, first_word, register_word}
+use Rattle.xt_simulation.specs.Knowledge.{second_word}
+use Rattle.xt_simulation.specs.Learning.{common_mask, doubtful, known_past, regs_past, regs_written}
+use Rattle.xt_simulation.specs.Learning.{special_given, with_mask}
+use Rattle.xt_simulation.proofs.SecretSpecials.{differs, with_other}
+use Rattle.xt_secret_walk.specs.declared.masks.CoreMasks.{CoreMasks}
+use Rattle.xt_secret_walk.specs.SeenWords.{knowledge_of, special_mask}
+use Rattle.xt_moments.specs.MomentLaws.{IsMomentKnown, is_clock, moment_known}
+use Rattle.xt_moments.proofs.Masks.{compare0_past, compare1_past, compare2_past, count_past}
+use Rattle.xt_moments.proofs.Masks.{others_past, ticked_other}
+use Rattle.xt_moment_search.specs.KnownCores.{moment_known_of, reads_clock, with_hidden}
+use Rattle.xt_moment_search.proofs.Used.{reads_no_clock, register_same, special_same}
+
+-- which clock it is
+clock_cases : (n : ℕ) (P : ℕ → Type 0) → is_clock n ≡ true → P 234 → P 240 → P 241 → P 242 → P n
+clock_cases n P is count zero one two = ⊎_elim
+    (λ a. at 234 a count)
+    (λ rest. ⊎_elim
+    (λ b. at 240 b zero)
+    (λ more. ⊎_elim
+    (λ d. at 241 d one)
+    (λ e. at 242 e two)
+    (or_cases (eqb n 241) (eqb n 242) more))
+    (or_cases (eqb n 240) (eqb n 241 || eqb n 242) rest))
+    (or_cases (eqb n 234) (eqb n 240 || (eqb n 241 || eqb n 242)) is)
+  where
+    at : (j : ℕ) → eqb n j ≡ true → P j → P n
+    at j e p = subst P (sym (eqb-true n j e)) p
+
+-- a register that keeps what is not known is no clock, and is not INTERRUPT
+marks_no_clock : (n : ℕ) → holds_marks n ≡ true → is_clock n ≡ false
+marks_no_clock n marks = by_clock (is_clock n) refl
+  where
+    by_clock : (b : Bool) → is_clock n ≡ b → b ≡ false
+    by_clock true is = clock_cases n (λ j. holds_marks j ≡ true → true ≡ false) is
+        (λ e. absurd (true≢false (sym e))) (λ e. absurd (true≢false (sym e)))
+        (λ e. absurd (true≢false (sym e))) (λ e. absurd (true≢false (sym e))) marks
+    by_clock false is = refl
+
+module _ (c : CoreMasks) (s : State) (write : Option RegWrite) (base reply : ℕ)
+    (h : IsMomentKnown (moment_known_of c)) where
+  abbrev k : Knowledge
+  k = knowledge_of c
+
+  abbrev m : Knowledge
+  m = moment_known_of c
+
+  abbrev past : Option Insn → Knowledge
+  past o = known_past o write base reply m s
+
+  -- ---- special registers
+
+  module _ (d : CoreMasks) (o : Option Insn)
+      (same : (n : ℕ) → holds_marks n ≡ true → special_mask d n ≡ (past o).special n) where
+    abbrev Is : ℕ → Type 0
+    Is n = cond (is_clock n) 0 (special_mask d n) ≡ with_mask 226 all_bits (past o).special n
+
+    kept : (n : ℕ) → n ≢ 226 → is_clock n ≡ false → special_mask d n ≡ (past o).special n
+    kept n other clock = by_marks (holds_marks n) refl
+      where
+        by_marks : (b : Bool) → holds_marks n ≡ b → special_mask d n ≡ (past o).special n
+        by_marks true marks = same n marks
+        by_marks false marks =
+            cond-false (holds_marks n) _ all_bits marks
+            ∙ sym (others_past m h s write base reply o n other marks clock)
+
+    apart : (n : ℕ) → n ≢ 226 → Is n
+    apart n other = by_clock (is_clock n) refl ∙ sym (with_other 226 all_bits (past o).special n
+        other)
+      where
+        by_clock : (b : Bool) → is_clock n ≡ b → cond b 0 (special_mask d n) ≡ (past o).special n
+        by_clock true clock = clock_cases n (λ j. 0 ≡ (past o).special j) clock
+            (sym (count_past m h s write base reply o)) (sym (compare0_past m h s write base reply o))
+            (sym (compare1_past m h s write base reply o))
+            (sym (compare2_past m h s write base reply o))
+        by_clock false clock = kept n other clock
+
+    pub specials_are : (n : ℕ) → Is n
+    specials_are n = ⊎_elim (λ is. subst Is (sym is) refl) (apart n) (cases_eq n 226)
+
+  -- ---- registers
+
+  abbrev regs_with : Option ℕ → Word → Word → Word → Insn → ℕ → ℕ
+  regs_with (Some r) x y u i = with_mask (place base r) (common_mask (register_word k s (Some r)) x)
+      k.regs
+  regs_with None x y u i =
+      regs_written write base (result_mask Lenient i x y u k.threadptr reply) k.regs
+
+  by_doubt : (i : Insn) (d : Option ℕ) → regs_past i d write base reply k s
+      ≡ regs_with d (first_word i k s) (second_word i k s) (first_special i k s) i
+  by_doubt i None = refl
+  by_doubt i (Some r) = refl
+
+  by_doubt_too : (i : Insn) (d : Option ℕ) → regs_past i d write base reply m s
+      ≡ regs_with d (first_word i m s) (second_word i m s) (first_special i m s) i
+  by_doubt_too i None = refl
+  by_doubt_too i (Some r) = refl
+
+  regs_are : (i : Insn) → in_range i ≡ true → reads_clock i ≡ false
+      → regs_past i (doubtful i (second_word i k s)) write base reply k s
+      ≡ regs_past i (doubtful i (second_word i m s)) write base reply m s
+  regs_are i ok free =
+      let x = register_same c s (reads i).0 in
+      let y = register_same c s (reads i).1 in
+      let u = special_same c s (special_reads i).0 (reads_no_clock i ok free) in
+      by_doubt i (doubtful i (second_word i k s))
+      ∙ (sym (λ j. regs_with (doubtful i (y j)) (x j) (y j) (u j) i)
+      ∙ sym (by_doubt_too i (doubtful i (second_word i m s))))
+
+  -- ---- a special register that keeps what is not known
+
+  given_same : (o : Option (ℕ × ℕ)) (given : ℕ) (n : ℕ) → is_clock n ≡ false
+      → special_given o given k.special n ≡ special_given o given m.special n
+  given_same None given n e = sym (cond-false (is_clock n) 0 (k.special n) e)
+  given_same (Some p) given n e = by_marks (holds_marks p.1)
+    where
+      plain : k.special n ≡ m.special n
+      plain = sym (cond-false (is_clock n) 0 (k.special n) e)
+
+      by_marks : (b : Bool) → cond b (with_mask p.1 given k.special) k.special n
+          ≡ cond b (with_mask p.1 given m.special) m.special n
+      by_marks true = ap (λ (x : ℕ). cond (eqb n p.1) given x) plain
+      by_marks false = plain
+
+  no_count : (n : ℕ) → holds_marks n ≡ true → (n ≢ 226) × (n ≢ 234)
+  no_count n marks =
+      (differs n 226 holds_marks marks refl, differs n 234 holds_marks marks refl)
+
+  -- the masks of these are those that special_given leaves, of both
+  marks_past : (i : Insn) (n : ℕ) → holds_marks n ≡ true
+      → (known_past (Some i) write base reply k s).special n ≡ (past (Some i)).special n
+  unfolding known_past
+  marks_past i n marks =
+      let x = (first_word i k s).mask in
+      let y = (first_word i m s).mask in
+      let same : x ≡ y = ap (λ (w : Word). w.mask) (sym (register_same c s (reads i).0)) in
+      let not = no_count n marks in
+      ticked_other m h s write base reply (special_given (moved_to i) x k.special) n not.0 not.1
+      ∙ (given_same (moved_to i) x n (marks_no_clock n marks)
+      ∙ (ap (λ (g : ℕ). special_given (moved_to i) g m.special n) same
+      ∙ sym (ticked_other m h s write base reply (special_given (moved_to i) y m.special) n not.0
+      not.1)))
+
+  marks_stay : (n : ℕ) → holds_marks n ≡ true → k.special n ≡ (past None).special n
+  unfolding known_past
+  marks_stay n marks =
+      let not = no_count n marks in
+      sym (cond-false (is_clock n) 0 (k.special n) (marks_no_clock n marks))
+      ∙ sym (ticked_other m h s write base reply m.special n not.0 not.1)
+
+  -- ---- all of it
+
+  -- nothing is executed
+  pub none_learnt : (d : CoreMasks) → knowledge_of d ≡ k
+      → moment_known_of d ≡ moment_known None write base reply m s
+  unfolding known_past
+  none_learnt d same =
+      let special : (n : ℕ) → special_mask d n ≡ k.special n = λ n. ap (λ (f : Knowledge). f.special n) same in
+      let now = specials_are d None (λ n marks. special n ∙ marks_stay n marks) in
+      λ j. record {
+        regs = (same j).regs;
+        special = λ n. now n j;
+        threadptr = (same j).threadptr;
+      }
+
+  -- an instruction that reads no clock
+  pub plain_learnt : (d : CoreMasks) (i : Insn) → in_range i ≡ true → reads_clock i ≡ false
+      → knowledge_of d ≡ known_past (Some i) write base reply k s
+      → moment_known_of d ≡ moment_known (Some i) write base reply m s
+  unfolding known_past
+  plain_learnt d i ok free same =
+      let special : (n : ℕ) → special_mask d n
+      ≡ (known_past (Some i) write base reply k s).special n = λ n. ap (λ (f : Knowledge). f.special n) same in
+      let now = specials_are d (Some i) (λ n marks. special n ∙ marks_past i n marks) in
+      let regs = ap (λ (f : Knowledge). f.regs) same ∙ regs_are i ok free in
+      let pointer = ap (λ (f : Knowledge). f.threadptr) same
+      ∙ ap (λ (w : Word). pointer_mask i w.mask k.threadptr) (sym (register_same c s (reads i).0)) in
+      λ j. record { regs = regs j; special = λ n. now n j; threadptr = pointer j }
+
+  -- ---- an instruction that reads a clock: no bit is known of the register that it writes
+
+  clock_regs : (i : Insn) → reads_clock i ≡ true
+      → regs_written write base 0 k.regs
+      ≡ regs_past i (doubtful i (second_word i m s)) write base reply m s
+  unfolding doubtful result_mask system_mask special_reads
+  clock_regs (insn.System (system.Special SpecialName.Rsr t n)) e =
+      ap (λ (b : Bool). regs_written write base (cond b 0 (k.special n)) k.regs) (sym e)
+  clock_regs (insn.System (system.Special SpecialName.Xsr t n)) e =
+      ap (λ (b : Bool). regs_written write base (cond b 0 (k.special n)) k.regs) (sym e)
+  clock_regs _ e = absurd (true≢false (sym e))
+
+  clock_marks : (i : Insn) → reads_clock i ≡ true → (n : ℕ) → holds_marks n ≡ true
+      → k.special n ≡ (past (Some i)).special n
+  unfolding known_past moved_to
+  clock_marks (insn.System (system.Special SpecialName.Rsr t r)) e n marks =
+      let not = no_count n marks in
+      sym (cond-false (is_clock n) 0 (k.special n) (marks_no_clock n marks))
+      ∙ sym (ticked_other m h s write base reply m.special n not.0 not.1)
+  clock_marks (insn.System (system.Special SpecialName.Xsr t r)) e n marks =
+      let i = insn.System (system.Special SpecialName.Xsr t r) in
+      let not = no_count n marks in
+      let given = special_given (Some (t, r)) (first_word i m s).mask m.special in
+      sym (cond-false (is_clock n) 0 (k.special n) (marks_no_clock n marks))
+      ∙ (no_marks (holds_marks r) refl
+      ∙ sym (ticked_other m h s write base reply given n not.0 not.1))
+    where
+      no_marks : (b : Bool) → holds_marks r ≡ b
+          → m.special n
+          ≡ special_given (Some (t, r))
+          (first_word (insn.System (system.Special SpecialName.Xsr t r)) m s).mask m.special n
+      no_marks true marked = absurd (true≢false (sym e ∙ marks_no_clock r marked))
+      no_marks false marked =
+          ap (λ (b : Bool). cond b (with_mask r
+          (first_word (insn.System (system.Special SpecialName.Xsr t r)) m s).mask m.special)
+          m.special n) (sym marked)
+  clock_marks _ e n marks = absurd (true≢false (sym e))
+
+  clock_pointer : (i : Insn) (given : ℕ) → reads_clock i ≡ true
+      → k.threadptr ≡ pointer_mask i given m.threadptr
+  unfolding pointer_mask
+  clock_pointer (insn.System (system.Special SpecialName.Rsr t n)) given e = refl
+  clock_pointer (insn.System (system.Special SpecialName.Xsr t n)) given e = refl
+  clock_pointer _ given e = absurd (true≢false (sym e))
+
+  pub clock_learnt : (d : CoreMasks) (i : Insn) → reads_clock i ≡ true
+      → knowledge_of d ≡ with_hidden write base k
+      → moment_known_of d ≡ moment_known (Some i) write base reply m s
+  unfolding known_past
+  clock_learnt d i e same =
+      let special : (n : ℕ) → special_mask d n ≡ k.special n = λ n. ap (λ (f : Knowledge). f.special n) same in
+      let now = specials_are d (Some i) (λ n marks. special n ∙ clock_marks i e n marks) in
+      let regs = ap (λ (f : Knowledge). f.regs) same ∙ clock_regs i e in
+      let pointer = ap (λ (f : Knowledge). f.threadptr) same
+      ∙ clock_pointer i (first_word i m s).mask e in
+      λ j. record { regs = regs j; special = λ n. now n j; threadptr = pointer j }

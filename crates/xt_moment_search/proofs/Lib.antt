@@ -1,0 +1,13 @@
+mod Words
+mod Rows
+mod Listing
+mod Used
+mod Learnt
+mod CutStates
+mod HiddenBytes
+mod Leading
+mod Closed
+mod TurnedCores
+mod Complete
+mod Ended
+mod KnownWords

@@ -1,0 +1,10 @@
+use Rattle.std.proofs.Common.{◌≡◌, map, take}
+use Rattle.xt_map.specs.Serving.{number_at}
+use Rattle.xt_search.specs.Changed.{contents_of}
+use Rattle.xt_moment_search.proofs.keys.values.Given as goal
+
+abbrev pub invariant-loop-word : goal.invariant-loop-word
+invariant-loop-word l =
+    l.values.items
+    ≡ map (λ a. number_at (contents_of l.ground.opening.contents l.world.held.value) a 4)
+    (take l.word-index l.words)

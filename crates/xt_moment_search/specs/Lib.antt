@@ -1,0 +1,13 @@
+pub mod Sides
+pub mod KnownCores
+pub mod Turned
+pub mod Turns
+pub mod Parts
+pub mod Opened
+pub mod Keyed
+pub mod Listed
+pub mod Stuckness
+pub mod Covering
+pub mod MomentOrders
+pub mod MomentLines
+pub mod Told

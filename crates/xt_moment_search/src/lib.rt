@@ -1,0 +1,23 @@
+//! What can come out of a program of two cores whose timers fire at any moment.
+#![tactic(auto)]
+
+mod answers;
+mod bytes;
+mod choices;
+mod confirming;
+mod found;
+mod ground;
+mod keys;
+mod knowing;
+mod lines;
+mod machine;
+mod order_rows;
+mod sides;
+mod stuck;
+mod texts;
+mod worlds;
+
+pub use answers::{Answers, Ending};
+pub use found::Found;
+pub use stuck::Stuck;
+pub use texts::moments_text;

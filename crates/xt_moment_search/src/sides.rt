@@ -1,0 +1,243 @@
+//! A core between two turns, and what is known of it.
+ghost use Rattle.std.specs.Prelude.{◌≡◌, ◌≢◌, ◌<◌, true, false, length, if◌then◌else◌};
+ghost use Rattle.xt_exec.specs.States.{file_state};
+ghost use Rattle.xt_exec.specs.TurnLaws.{IsShaped};
+ghost use Rattle.xt_core.specs.Runs.{opening_at};
+ghost use Rattle.xt_simulation.specs.Knowledge.{all_known};
+ghost use Rattle.xt_secret_walk.specs.SeenWords.{knowledge_of};
+ghost use Rattle.xt_moments.specs.Moments.{core_fired, is_armed, opening_core, with_special};
+ghost use Rattle.xt_moment_search.specs.KnownCores.{core_of};
+
+use std::marker::Model;
+use xt_exec::Regs;
+use xt_moments::timer_bit;
+use xt_outcomes::Part;
+use xt_secret_walk::{CoreMasks, WatchedFile};
+use xt_special::{Ps, Special, number};
+use xt_trace::Options;
+use xt_window::Windows;
+
+/// A core between two turns: its registers, in which each bit that is not known is 0, which bits are known, the bits of
+/// INTERRUPT whose timers are armed, and whether the core has stopped. Contracts see its state in place of the registers.
+#[derive(Drop)]
+pub struct Side {
+    pub(crate) regs: Regs<WatchedFile>,
+    pub(crate) masks: CoreMasks,
+    pub(crate) armed: u32,
+    pub(crate) stopped: bool,
+}
+
+impl Model for Side {
+    ghost use Rattle.xt_exec.specs.States.{file_state};
+    ghost use Rattle.xt_exec.specs.TurnLaws.{IsShaped};
+    ghost use Rattle.xt_moment_search.specs.Sides as sides;
+
+    ghost Value = { sides.KnownCore };
+
+    ghost view = { λ s. record { state = file_state s.regs; masks = s.masks; armed = s.armed; stopped = s.stopped } };
+
+    ghost invariant = { λ s. IsShaped (file_state s.regs) };
+}
+
+/// The same masks.
+pub(crate) fn copy_of(masks: &CoreMasks) -> CoreMasks
+    ensures { result ≡ masks.now }
+{
+    CoreMasks {
+        regs: masks.regs,
+        special: masks.special,
+        threadptr: masks.threadptr,
+    }
+}
+
+/// The registers with this value in a special register.
+pub(crate) fn with_register(regs: Regs<WatchedFile>, n: u8, value: u32) -> Regs<WatchedFile>
+    requires shaped { IsShaped (file_state regs) }
+    requires sar { n ≢ 3 }
+    requires vecbase { n ≢ 231 }
+    ensures state { file_state result ≡ with_special n value (file_state regs) }
+    ensures shaped { IsShaped (file_state result) }
+{
+    let mut kept = regs;
+    kept.sr.set_register(n, value);
+    kept
+}
+
+// Whether all fields of PS are equal.
+fn is_same_ps(a: Ps, b: Ps) -> bool
+    ensures { result ≡ true → a ≡ b }
+{
+    a == b
+}
+
+// Whether numbers that were equal so far still are, with these two.
+fn are_still_equal(so_far: bool, a: u32, b: u32) -> bool
+    ensures before { result ≡ true → so_far ≡ true }
+    ensures these { result ≡ true → a ≡ b }
+{
+    so_far && a == b
+}
+
+// Whether all special registers are equal.
+fn is_same_special(a: &Special, b: &Special) -> bool
+    requires count_a { length a.now.file ≡ 256 }
+    requires count_b { length b.now.file ≡ 256 }
+    ensures { result ≡ true → a.now ≡ b.now }
+{
+    let mut equal = true;
+    for n in 0..256u32 {
+        equal = are_still_equal(equal, a.register(n as u8), b.register(n as u8));
+    }
+    if !equal {
+        return false;
+    }
+    is_same_ps(a.ps_fields(), b.ps_fields()) && a.threadptr() == b.threadptr()
+}
+
+// Whether all registers and the windows are equal.
+fn is_same_file(a: &WatchedFile, b: &WatchedFile) -> bool
+    requires count_a { length a.now.regs ≡ 64 }
+    requires count_b { length b.now.regs ≡ 64 }
+    ensures { result ≡ true → a.now ≡ b.now }
+{
+    let mut left = *a;
+    let mut right = *b;
+    let mut equal = true;
+    for n in 0..64u8 {
+        left.set_base(n / 4);
+        right.set_base(n / 4);
+        equal = are_still_equal(equal, left.read(n % 4), right.read(n % 4));
+    }
+    if !equal {
+        return false;
+    }
+    a.base() == b.base() && a.start() == b.start()
+}
+
+// Whether the same is known.
+fn is_same_masks(a: &CoreMasks, b: &CoreMasks) -> bool
+    ensures { result ≡ true → a.now ≡ b.now }
+{
+    a.regs.as_slice() == b.regs.as_slice()
+        && a.special.as_slice() == b.special.as_slice()
+        && a.threadptr == b.threadptr
+}
+
+impl Side {
+    ghost use Rattle.xt_trace.specs.Validity.{IsValid};
+
+    /// A core that opens at `pc`, with this core's stack of the options. All of it is known but CCOUNT and CCOMPARE.
+    ///
+    /// Conditions: the core is 0 or 1, and the options are valid.
+    pub fn open(core: u8, pc: u32, options: &Options) -> Side
+        requires core { core < 2 }
+        requires valid { IsValid options.now }
+        ensures core { core_of result ≡ opening_core (opening_at core pc options.now) }
+        ensures masks { knowledge_of result.masks ≡ all_known }
+        ensures shaped { IsShaped result.state }
+    {
+        let stack = if core == 0 {
+            options.stack0
+        } else {
+            options.stack1
+        };
+        Side {
+            regs: Regs::open(core, pc, options.vecbase, stack.hi, WatchedFile::new()),
+            masks: CoreMasks::whole(),
+            armed: 0,
+            stopped: false,
+        }
+    }
+
+    /// Whether two cores are equal, and the same is known of them.
+    pub fn is_same(&self, other: &Side) -> bool
+        ensures { result ≡ true → self.now ≡ other.now }
+    {
+        self.armed == other.armed
+            && self.stopped == other.stopped
+            && self.regs.pc == other.regs.pc
+            && self.regs.waiting == other.regs.waiting
+            && is_same_special(&self.regs.sr, &other.regs.sr)
+            && is_same_file(&self.regs.win, &other.regs.win)
+            && is_same_masks(&self.masks, &other.masks)
+    }
+
+    /// Whether the core has stopped.
+    pub fn has_stopped(&self) -> bool
+        ensures { result ≡ self.now.stopped }
+    {
+        self.stopped
+    }
+
+    /// The program counter.
+    pub fn pc(&self) -> u32
+        ensures { result ≡ self.now.state.control.pc }
+    {
+        self.regs.pc
+    }
+
+    /// Whether a timer is armed.
+    ///
+    /// Condition: `timer` is 0, 1 or 2.
+    pub fn is_armed(&self, timer: u8) -> bool
+        requires { timer < 3 }
+        ensures { result ≡ is_armed timer (core_of self.now) }
+    {
+        self.armed & timer_bit(timer) != 0
+    }
+
+    // The same core.
+    fn copy(&self) -> Side
+        ensures { result ≡ self.now }
+    {
+        Side {
+            regs: self.regs,
+            masks: copy_of(&self.masks),
+            armed: self.armed,
+            stopped: self.stopped,
+        }
+    }
+
+    /// The core after a timer has fired, or as it is if the timer is not armed.
+    ///
+    /// Condition: `timer` is 0, 1 or 2.
+    pub fn fired(&self, timer: u8) -> Side
+        requires { timer < 3 }
+        ensures core { core_of result ≡ core_fired timer (core_of self.now) }
+        ensures masks { result.masks ≡ self.now.masks }
+    {
+        if !self.is_armed(timer) {
+            return self.copy();
+        }
+        let interrupt = self.regs.sr.register(number::INTERRUPT) | timer_bit(timer);
+        Side {
+            regs: with_register(self.regs, number::INTERRUPT, interrupt),
+            masks: copy_of(&self.masks),
+            armed: self.armed & !timer_bit(timer),
+            stopped: self.stopped,
+        }
+    }
+
+    /// A number that is the same for equal cores.
+    pub fn digest(&self) -> u64 {
+        let mut digest = (self.regs.pc as u64).wrapping_add(
+            (self.armed as u64).wrapping_mul(0x1_0000_0000),
+        );
+        for i in 0..16u8 {
+            digest = digest
+                .wrapping_mul(0x9E37_79B9_7F4A_7C15)
+                .wrapping_add(self.regs.win.read(i) as u64);
+        }
+        digest
+    }
+}
+
+impl Part for Side {
+    fn is_like(&self, other: &Side) -> bool {
+        self.is_same(other)
+    }
+
+    fn mark(&self) -> u64 {
+        self.digest()
+    }
+}

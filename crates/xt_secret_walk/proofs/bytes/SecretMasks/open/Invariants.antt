@@ -1,9 +1,0 @@
-use Rattle.std.proofs.Common.{◌≡◌, ◌<◌, ℕ, get_or, length}
-use Rattle.xt_secrets.specs.SecretBytes.{opening_bytes}
-use Rattle.xt_secrets.specs.WatchedRuns.{has_byte_at}
-use Rattle.xt_secret_walk.specs.KnownBytes.{address_at}
-use Rattle.xt_secret_walk.proofs.bytes.SecretMasks.open.Given as goal
-
-abbrev pub invariant-loop-place : goal.invariant-loop-place
-invariant-loop-place l =
-    (length l.masks.items ≡ l.place) × ((k : ℕ) → k < l.place → get_or l.masks.items k 0 ≡ opening_bytes (has_byte_at l.secret) (has_byte_at l.public) (address_at k))

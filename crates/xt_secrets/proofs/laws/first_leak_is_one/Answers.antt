@@ -1,5 +1,0 @@
-use Rattle.xt_secrets.proofs.Leaks.{first_leak_is_one}
-use Rattle.xt_secrets.proofs.laws.first_leak_is_one.Goals as goal
-
-pub returns : goal.returns
-returns c = first_leak_is_one

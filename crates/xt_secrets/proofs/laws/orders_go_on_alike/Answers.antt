@@ -1,5 +1,0 @@
-use Rattle.xt_secrets.proofs.Worlds.{orders_go_on_alike}
-use Rattle.xt_secrets.proofs.laws.orders_go_on_alike.Goals as goal
-
-pub returns : goal.returns
-returns c = orders_go_on_alike

@@ -1,5 +1,0 @@
-use Rattle.xt_secrets.proofs.Leaks.{same_up_to_the_leak}
-use Rattle.xt_secrets.proofs.laws.same_up_to_the_leak.Goals as goal
-
-pub returns : goal.returns
-returns c = same_up_to_the_leak

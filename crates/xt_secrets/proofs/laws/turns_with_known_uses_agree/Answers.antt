@@ -1,5 +1,0 @@
-use Rattle.xt_secrets.proofs.Law.{turns_with_known_uses_agree}
-use Rattle.xt_secrets.proofs.laws.turns_with_known_uses_agree.Goals as goal
-
-pub returns : goal.returns
-returns c = turns_with_known_uses_agree

@@ -1,5 +1,0 @@
-use Rattle.xt_secrets.proofs.Worlds.{worlds_go_on_alike}
-use Rattle.xt_secrets.proofs.laws.worlds_go_on_alike.Goals as goal
-
-pub returns : goal.returns
-returns c = worlds_go_on_alike

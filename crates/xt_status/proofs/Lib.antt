@@ -1,4 +1,0 @@
-pub mod Writing
-pub mod Gathering
-pub mod Quiet
-mod Words

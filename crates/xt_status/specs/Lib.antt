@@ -1,5 +1,0 @@
-pub mod Statuses
-pub mod Calls
-pub mod Writes
-pub mod Inputs
-pub mod Pieces

@@ -1,3 +1,0 @@
-mod Courses
-mod Fetching
-mod Kept

@@ -1,5 +1,0 @@
-pub mod UsesText
-pub mod Held
-pub mod UseFindings
-pub mod SecretsText
-pub mod SecretFindings

@@ -1,5 +1,0 @@
-use Rattle.std.proofs.Common.{refl}
-use Rattle.xt_use_run.proofs.filling_laws.owb_is_the_fillings.Goals as goal
-
-pub returns : goal.returns
-returns c mask n rec = (refl, refl)

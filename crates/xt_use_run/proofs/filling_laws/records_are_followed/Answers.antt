@@ -1,5 +1,0 @@
-use Rattle.xt_use_run.proofs.FilledRuns.{records_followed}
-use Rattle.xt_use_run.proofs.filling_laws.records_are_followed.Goals as goal
-
-pub returns : goal.returns
-returns c = records_followed

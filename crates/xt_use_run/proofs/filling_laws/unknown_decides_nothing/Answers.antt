@@ -1,5 +1,0 @@
-use Rattle.xt_use_run.proofs.FilledRuns.{unknown_decides}
-use Rattle.xt_use_run.proofs.filling_laws.unknown_decides_nothing.Goals as goal
-
-pub returns : goal.returns
-returns c = unknown_decides

@@ -1,5 +1,0 @@
-use Rattle.xt_use_run.proofs.ImageRuns.{uses_of_runs_are_later}
-use Rattle.xt_use_run.proofs.laws.uses_of_runs_are_later.Goals as goal
-
-pub returns : goal.returns
-returns c = uses_of_runs_are_later

@@ -1,5 +1,0 @@
-pub mod Knowing
-pub mod UseRunLaws
-pub mod Fillings
-pub mod FillingLaws
-pub mod WrittenFirst
