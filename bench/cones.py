@@ -252,7 +252,7 @@ def rows():
 
 # Calls that other crates of this repository alone use, so no claim rests on what their clauses say: the halves of a turn,
 # and the pieces in which a text comes.
-INNER = {("xt_core", "begin"), ("xt_core", "end"), ("xt_core", "started"), ("xt_core", "head_of"), ("xt_report", "add")}
+INNER = {("xt_core", "begin"), ("xt_core", "end"), ("xt_core", "local_turn"), ("xt_core", "head_of"), ("xt_report", "add")}
 
 
 def unbelieved():

@@ -10,8 +10,7 @@ use Rattle.xt_rows.specs.RowLaws.{IsRegister}
 use Rattle.xt_exec.specs.declared.plans.Effect.{Effect}
 use Rattle.xt_exec.specs.declared.plans.Pending.{Pending}
 use Rattle.xt_exec.specs.State.{State}
-use Rattle.xt_exec.specs.Turn.{demand, planned_turn, turn}
-use Rattle.xt_exec.specs.Halves.{asking_turn}
+use Rattle.xt_exec.specs.Turn.{demand, turn}
 use Rattle.xt_core.specs.Cores.{Awaits}
 use Rattle.xt_core.specs.declared.begun.StartedTurn.{StartedTurn}
 use Rattle.xt_core.specs.declared.begun.StartedTurn.TheVariants.{Local, Asks}

@@ -19,4 +19,4 @@ pub use cursor::Cursor;
 pub use ends::left_past;
 pub use links::stack_links;
 pub use replies::Replies;
-pub use turn::{begin as start_turn, end as end_turn, head_of, started};
+pub use turn::{begin as start_turn, end as end_turn, head_of, local_turn};

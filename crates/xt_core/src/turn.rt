@@ -5,8 +5,8 @@ ghost use Rattle.xt_map.specs.Fetching.{fetch_at};
 ghost use Rattle.xt_exec.specs.State.{State};
 ghost use Rattle.xt_exec.specs.States.{state_of};
 ghost use Rattle.xt_exec.specs.Turn.{fetched_turn, planned_turn, turn};
-ghost use Rattle.xt_exec.specs.Halves.{IsPlan, at_end};
-ghost use Rattle.xt_core.specs.Turns.{IsBegun, head_of, turn_record};
+ghost use Rattle.xt_exec.specs.Halves.{IsEffect, IsPlan, at_end};
+ghost use Rattle.xt_core.specs.Turns.{IsBegun, IsLocal, head_of, turn_record};
 ghost use Rattle.xt_core.specs.Cores.{Awaits};
 
 use crate::begun::StartedTurn;
@@ -27,23 +27,20 @@ pub fn begin<W: Windows>(r: &mut Regs<W>, code: &Constants) -> StartedTurn
     ensures { IsBegun result (constant_byte code.now) (state_of W.regs W.base W.start r.old) (state_of W.regs W.base W.start r.new) }
 {
     let head = head_of(r);
-    let plan = start_turn(r, code);
-    started(r, head, plan)
-}
-
-/// The first half of a turn that began with `head` and has come to `plan`. A turn that makes no access is whole.
-#[inline(always)]
-pub fn started<W: Windows>(r: &mut Regs<W>, head: Head, plan: Plan) -> StartedTurn
-    ensures { (code : ℕ → ℕ) (s : State) → head ≡ head_of s → IsPlan plan s (state_of W.regs W.base W.start r.old) (planned_turn code s)
-        → IsBegun result code s (state_of W.regs W.base W.start r.new) }
-{
-    match plan {
-        Plan::Done(effect) => {
-            tick(r);
-            StartedTurn::Local(turn_record(head, effect, None, 0))
-        }
+    match start_turn(r, code) {
+        Plan::Done(effect) => StartedTurn::Local(local_turn(r, head, effect)),
         Plan::Bus(_, pending) => StartedTurn::Asks(pending),
     }
+}
+
+/// A turn that began with `head` and makes no access, once its `effect` stands: its record.
+#[inline(always)]
+pub fn local_turn<W: Windows>(r: &mut Regs<W>, head: Head, effect: Effect) -> StepRecord
+    ensures { (code : ℕ → ℕ) (s : State) → head ≡ head_of s → IsEffect effect (state_of W.regs W.base W.start r.old) (planned_turn code s)
+        → IsLocal code s (state_of W.regs W.base W.start r.new) result }
+{
+    tick(r);
+    turn_record(head, effect, None, 0)
 }
 
 /// The second half of a turn, with the reply to its access.

@@ -14,7 +14,7 @@ use crate::file::WatchedFile;
 use crate::masks::CoreMasks;
 use crate::seen::Seen;
 use xt_codec::{Fetch, instruction_at};
-use xt_core::{Replies, StartedTurn, end_turn, head_of, started};
+use xt_core::{Replies, end_turn, head_of, local_turn};
 use xt_exec::plans::{Effect, Plan};
 use xt_exec::{Regs, plan};
 use xt_map::Constants;
@@ -123,9 +123,9 @@ pub fn next_turn(
 {
     let head = head_of(regs);
     let plan = start(regs, masks, code, found);
-    match started(regs, head, plan) {
-        StartedTurn::Local(record) => record,
-        StartedTurn::Asks(pending) => {
+    match plan {
+        Plan::Done(effect) => local_turn(regs, head, effect),
+        Plan::Bus(_, pending) => {
             let reply = replies.next();
             end_turn(regs, pending, reply)
         }

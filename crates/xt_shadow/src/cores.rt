@@ -25,7 +25,7 @@ use crate::quiet::passes;
 use crate::seeing::see;
 use std::alloc::{AllocError, Global};
 use xt_codec::Fetch;
-use xt_core::{Replies, StartedTurn, end_turn, head_of, left_past, started};
+use xt_core::{Replies, end_turn, head_of, left_past, local_turn};
 use xt_discipline::{Held, Side};
 use xt_exec::plans::{Effect, Plan};
 use xt_exec::{Regs, plan};
@@ -222,9 +222,9 @@ impl<'a> ShadowCore<'a> {
     {
         let head = head_of(&self.regs);
         let plan = self.start(lookups);
-        match started(&mut self.regs, head, plan) {
-            StartedTurn::Local(record) => record,
-            StartedTurn::Asks(pending) => {
+        match plan {
+            Plan::Done(effect) => local_turn(&mut self.regs, head, effect),
+            Plan::Bus(_, pending) => {
                 let reply = self.replies.next();
                 end_turn(&mut self.regs, pending, reply)
             }

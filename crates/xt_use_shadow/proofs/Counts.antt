@@ -21,7 +21,7 @@ use Rattle.xt_shadow.specs.InStep.{IsPlain}
 use Rattle.xt_shadow.proofs.Counts.{after_none, count, inputs_count, laid_count, outcome_count}
 use Rattle.xt_uses.specs.Known.{result_mask}
 use Rattle.xt_uses.specs.UseState.{UseState, first_word, second_word, special_operand}
-use Rattle.xt_uses.specs.UseStep.{UseTurn, cut_state, fetched_movsp, forgets_registers, full_step, leave_results, left_after, movsp_of, reply_mask, step_insn, turn_or, use_step, use_turn, value_step}
+use Rattle.xt_uses.specs.UseStep.{UseTurn, cut_state, fetched_movsp, forgets_registers, full_step, leave_results, movsp_of, reply_mask, step_insn, turn_or, use_step, use_turn, value_step}
 use Rattle.xt_uses.proofs.UseSteps.{value_plain}
 
 -- ---- the values

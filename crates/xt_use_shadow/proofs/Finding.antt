@@ -6,7 +6,7 @@ use Rattle.xt_uses.specs.UseLevels.{IsUseLevel}
 use Rattle.xt_use_shadow.specs.declared.cores.UseShadow.{UseShadow}
 use Rattle.xt_use_shadow.specs.Shadows.{IsCore, core_state, shown}
 
-module _ (c : UseShadow) (seen : List (Option ℕ)) (masks : List ℕ) (near : Bool) (inside : IsCore c) (outside : c.side.phase ≡ Outside) (plain : c.plain ≡ true) (same : seen ≡ c.side.uses.state.frame.seen) (known : masks ≡ c.side.uses.state.masks.seen)
+module _ (c : UseShadow) (seen : List (Option ℕ)) (masks : List ℕ) (near : Bool) (inside : IsCore c) (outside : c.side.phase ≡ Outside) (may_step : c.may_step ≡ true) (same : seen ≡ c.side.uses.state.frame.seen) (known : masks ≡ c.side.uses.state.masks.seen)
     (level : IsUseLevel c.side.uses c.side.steps (core_state c).control) (stack : Stack c.side.uses.bounds.range.lo c.side.uses.bounds.range.hi c.side.uses.state.frame.seen c.side.uses.state.frame.frames)
   where
     abbrev found : UseShadow
@@ -29,7 +29,7 @@ module _ (c : UseShadow) (seen : List (Option ℕ)) (masks : List ℕ) (near : B
       plain = inside.plain;
       nested = inside.nested;
       level = λ e. record {
-        plain = plain;
+        may_step = may_step;
         outside = outside;
         sp = ap (λ (l : List (Option ℕ)). get_or l 1 None) same;
         stack = subst (λ (l : List (Option ℕ)). Stack c.side.uses.bounds.range.lo c.side.uses.bounds.range.hi l c.side.uses.state.frame.frames) (sym same) stack;

@@ -8,4 +8,3 @@ mod Saw
 mod Finding
 mod Walking
 mod Opened
-mod Served

@@ -1,5 +1,5 @@
 -- A turn that begins, and one that is made.
-use Rattle.std.proofs.Common.{◌≡◌, ℕ, ◌-◌, ◌<◌, Bool, true, false, cond, Option, Some, None, List, refl, sym, ap, ◌∙◌, subst}
+use Rattle.std.proofs.Common.{◌≡◌, ℕ, ◌-◌, ◌<◌, Bool, true, false, Option, Some, None, List, refl, sym, ap, ◌∙◌, subst}
 use Rattle.std.specs.Prelude.{IfSome}
 use Rattle.std.proofs.lemmas.Bool.{cond-false, cond-true, false≢true, true≢false}
 use Rattle.xt_isa.specs.declared.Insn.{Insn}
@@ -14,14 +14,12 @@ use Rattle.xt_map.specs.Fetching.{Fetches, fetch_at}
 use Rattle.xt_window.specs.Values.{WindowState}
 use Rattle.xt_exec.specs.declared.regs.Regs.{Regs}
 use Rattle.xt_exec.specs.State.{State}
-use Rattle.xt_exec.specs.States.{file_state}
 use Rattle.xt_exec.specs.Turn.{demand, turn}
 use Rattle.xt_exec.specs.TurnLaws.{IsServed}
 use Rattle.xt_exec.proofs.Served.{demand_served}
 use Rattle.xt_shadow.proofs.Making.{made_records, made_state}
 use Rattle.xt_uses.specs.UseLevels.{use_levelled}
 use Rattle.xt_uses.specs.UseParts.{UseWalked}
-use Rattle.xt_discipline.specs.ByteMarks.{either}
 use Rattle.xt_use_walk.specs.declared.side.Bytes.{Bytes}
 use Rattle.xt_use_walk.specs.declared.side.Side.{Side}
 use Rattle.xt_use_walk.specs.MaskedBytes.{IsSpared}
@@ -53,7 +51,7 @@ started_whole code old r = record {
   side = refl;
   seen = refl;
   masks = refl;
-  plain = refl;
+  may_step = refl;
   vectors = refl;
   left = refl;
   level = λ e. absurd (false≢true e);
@@ -70,7 +68,7 @@ started_ready code old r i len k ok at quiet goes = record {
   side = sym (cond-true old.level old.side (shown old) k.level);
   seen = refl;
   masks = refl;
-  plain = refl;
+  may_step = refl;
   vectors = refl;
   left = refl;
   level = λ e. e;
@@ -101,7 +99,7 @@ started_on code old mid r q k = record {
   side = k.side;
   seen = k.seen;
   masks = k.masks;
-  plain = k.plain;
+  may_step = k.may_step;
   vectors = k.vectors;
   left = k.left;
   level = k.level;
@@ -177,7 +175,7 @@ started_late code old mid k same = record {
   side = shown_mid code old mid k same;
   seen = k.seen;
   masks = k.masks;
-  plain = k.plain;
+  may_step = k.may_step;
   vectors = k.vectors;
   left = k.left;
   level = λ e. absurd (false≢true e);
@@ -220,7 +218,7 @@ is_made code bytes old mid rec left k some owb step rest lefts spared = record {
   side = k.side;
   seen = k.seen;
   masks = k.masks;
-  plain = k.plain;
+  may_step = k.may_step;
   vectors = k.vectors;
   level = k.level;
   ready = k.ready;

@@ -1,7 +1,6 @@
 -- Both cores as a run of an image opens.
-use Rattle.std.proofs.Common.{◌≡◌, ℕ, ◌≤◌, List, length, refl, sym, ◌∙◌, ap, subst, arith}
+use Rattle.std.proofs.Common.{◌≡◌, ℕ, ◌≤◌, Bool, length, refl, sym, ◌∙◌, ap, subst, arith}
 use Rattle.std.proofs.lemmas.Bool.{true≢false}
-use Rattle.xt_map.specs.declared.segment.Segment.{Segment}
 use Rattle.xt_image.specs.declared.image.Image.{Image}
 use Rattle.xt_special.specs.Opening.{prid_of}
 use Rattle.xt_trace.specs.declared.run.Run.{Run}
@@ -29,7 +28,7 @@ use Rattle.xt_use_shadow.proofs.Turning.{shown_whole}
 nothing_less : (n : ℕ) → 0 ≤ n
 nothing_less n = omega arith
 
-module _ (d : Discipline) (image : Image) (r : Run) (is : IsRunOf image r) (core : ℕ) (c : UseShadow) (o : IsOpenedCore d image r core c) where
+module _ (d : Discipline) (image : Image) (r : Run) (is : IsRunOf image r) (core : ℕ) (may_step : Bool) (c : UseShadow) (o : IsOpenedCore d image r core may_step c) where
   core_opened : IsCore c
   core_opened =
       let s = stack_valid core r.options is.valid in
@@ -47,14 +46,15 @@ module _ (d : Discipline) (image : Image) (r : Run) (is : IsRunOf image r) (core
   all_left : records_left (code_of image) c ≡ (records_of core image r).records
   all_left = λ i. (trace_over (processor (code_of image)) (o.state i) (o.left i) (o.replies i)).records
 
-pub walk_opened : (d : Discipline) (image : Image) (r : Run) (w : UseShadowWalk) → IsRunOf image r → w.code ≡ image.segments → IsOpenedCore d image r 0 w.side0 → IsOpenedCore d image r 1 w.side1
-    → AreOpened d w.bytes r.options.stack0 r.options.stack1 → IsOpenedWalk d image r w
-walk_opened d image r w is code zero one bytes =
+pub walk_opened : (d : Discipline) (image : Image) (r : Run) (may_step : Bool) (w : UseShadowWalk) → IsRunOf image r → w.code ≡ image.segments → IsOpenedCore d image r 0 may_step w.side0 → IsOpenedCore d image r 1 may_step w.side1
+    → AreOpened d w.bytes r.options.stack0 r.options.stack1 → IsOpenedWalk d image r may_step w
+walk_opened d image r may_step w is code zero one bytes =
     let a : (shown_walk w).side0 ≡ side_at 0 r.options.stack0.hi (opened_use d 0 image.entry r.options) = shown_whole w.side0 zero.level ∙ zero.side in
     let b : (shown_walk w).side1 ≡ side_at 1 r.options.stack1.hi (opened_use d 1 r.options.entry1 r.options) = shown_whole w.side1 one.level ∙ one.side in
     record {
-      cores = record { zero = core_opened d image r is 0 w.side0 zero; one = core_opened d image r is 1 w.side1 one };
+      cores = record { zero = core_opened d image r is 0 may_step w.side0 zero; one = core_opened d image r is 1 may_step w.side1 one };
+      never = λ e. record { zero = zero.may_step ∙ e; one = one.may_step ∙ e };
       opened = opens d (shown_walk w) image.segments image.entry r.options is.valid code a b bytes;
-      records0 = all_left d image r is 0 w.side0 zero;
-      records1 = all_left d image r is 1 w.side1 one;
+      records0 = all_left d image r is 0 may_step w.side0 zero;
+      records1 = all_left d image r is 1 may_step w.side1 one;
     }

@@ -1,5 +1,5 @@
 -- A core after a record that was judged as a whole.
-use Rattle.std.proofs.Common.{◌≡◌, ℕ, Bool, false, Option, Some, None, Result, Ok, Err, refl, sym, ◌∙◌, ap, subst}
+use Rattle.std.proofs.Common.{◌≡◌, ℕ, Bool, false, Option, Some, Result, Ok, Err, refl, sym, ◌∙◌, ap, subst}
 use Rattle.std.proofs.lemmas.Bool.{true≢false}
 use Rattle.xt_trace.specs.declared.record.StepRecord.{StepRecord}
 use Rattle.xt_frames.specs.declared.kinds.HandlerPhase.{HandlerPhase}
@@ -73,7 +73,7 @@ module _ (old : UseShadow) (new : Side) (bytes : Bytes) (others : ℕ → Bool) 
     pub core_handles : new.phase ≡ InHandler → IsCore (record old { side = new })
     core_handles e = core_on InHandler e (λ x. x)
 
-    pub core_nested : IsCore (record old { side = new; plain = false })
+    pub core_nested : IsCore (record old { side = new; may_step = false })
     core_nested = record {
       side = left.side;
       vectors = vectors;

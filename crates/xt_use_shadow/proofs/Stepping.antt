@@ -14,7 +14,6 @@ use Rattle.xt_exec.specs.State.{State}
 use Rattle.xt_exec.specs.Turn.{turn}
 use Rattle.xt_frames.specs.declared.breach.Limits.{Limits}
 use Rattle.xt_frames.specs.declared.holes.UndefinedParts.{UndefinedParts}
-use Rattle.xt_frames.specs.declared.kinds.BreachKind.{BreachKind}
 use Rattle.xt_frames.specs.declared.kinds.HandlerPhase.{HandlerPhase}
 use Rattle.xt_frames.specs.declared.kinds.HandlerPhase.TheVariants.{Outside, InHandler}
 use Rattle.xt_frames.specs.Breaches.{is_sp}
@@ -37,7 +36,7 @@ use Rattle.xt_uses.specs.UseParts.{IsUsed, UseWalked, fresh_at, masks_at, use_at
 use Rattle.xt_uses.specs.UseQuick.{AreWhole, IsQuickUse, done_quick}
 use Rattle.xt_uses.specs.UseState.{UseState, ValidityBits, stack_pointer}
 use Rattle.xt_uses.specs.UseStep.{visible_written}
-use Rattle.xt_uses.specs.UseWalk.{count_of, mask_stored, use_seen, use_seen_judged}
+use Rattle.xt_uses.specs.UseWalk.{count_of, mask_stored, use_seen}
 use Rattle.xt_uses.specs.Words.{all_bits}
 use Rattle.xt_uses.proofs.QuickUses.{quick_use}
 use Rattle.xt_uses.proofs.UseCores.{use_left, use_told}

@@ -2,10 +2,9 @@
 use Rattle.std.proofs.Common.{◌≡◌, ℕ, ◌+◌, ◌<◌, ◌^◌, Bool, true, false, Option, Some, None, Result, Ok, Err, List, [], length, refl, sym, ◌∙◌, ap, subst, get_or}
 use Rattle.std.specs.Prelude.{IfSome}
 use Rattle.std.proofs.lemmas.Bool.{cond-false, cond-true, true≢false}
-use Rattle.std.proofs.lemmas.List.{get_or-set_other, length-set}
+use Rattle.std.proofs.lemmas.List.{length-set}
 use Rattle.xt_map.specs.Regions.{is_mapped}
 use Rattle.xt_special.specs.Control.{special_of}
-use Rattle.xt_trace.specs.declared.record.RegWrite.{RegWrite}
 use Rattle.xt_trace.specs.declared.record.StepRecord.{StepRecord}
 use Rattle.xt_trace.specs.Traces.{trace_over}
 use Rattle.xt_exec.specs.State.{State}
@@ -13,23 +12,20 @@ use Rattle.xt_exec.specs.Chips.{processor}
 use Rattle.xt_frames.specs.Frames.{seen_after_write}
 use Rattle.xt_frames.specs.Breaches.{Bounds}
 use Rattle.xt_frames.specs.Stacks.{Stack}
-use Rattle.xt_frames.proofs.Shown.{KeepsSp, sp_kept}
+use Rattle.xt_frames.proofs.Shown.{sp_kept}
 use Rattle.xt_frames.proofs.StackSteps.{write_stack}
 use Rattle.xt_discipline.proofs.Seeing.{le_same}
 use Rattle.xt_shadow.proofs.Turning.{le_more}
 use Rattle.xt_shadow.specs.InStep.{IsPlain}
 use Rattle.xt_shadow.proofs.Counts.{turn_count}
 use Rattle.xt_shadow.proofs.Stepping.{sp_same}
-use Rattle.xt_uses.specs.declared.told.JudgeError.TheVariants as stopped
 use Rattle.xt_uses.specs.UseWalk.{use_seen}
 use Rattle.xt_use_walk.specs.declared.side.Bytes.{Bytes}
 use Rattle.xt_use_walk.specs.declared.side.Side.{Side}
-use Rattle.xt_use_walk.specs.declared.walk.End as walk_end
-use Rattle.xt_use_walk.specs.declared.walk.End.TheVariants as ended
 use Rattle.xt_use_walk.specs.declared.walk.FirstUse.{FirstUse}
 use Rattle.xt_use_walk.specs.MaskedBytes.{AreFull, KnowsBytes}
 use Rattle.xt_use_walk.specs.Sides.{IsUseSeen, IsUseSide, live_in, standing_of}
-use Rattle.xt_use_walk.specs.Walks.{Turns}
+use Rattle.xt_use_walk.specs.Walks.{Shows, Turns, WalkEnd}
 use Rattle.xt_use_shadow.specs.declared.cores.UseShadow.{UseShadow}
 use Rattle.xt_use_shadow.specs.declared.seeing.End.{End}
 use Rattle.xt_use_shadow.specs.declared.seeing.End.TheVariants.{NoTurn, Breaks, NoMemory, Lost}
@@ -72,7 +68,7 @@ shown_steps c = shown_by (λ (x : Side). x.steps ≡ c.side.steps) c (λ e. refl
 pub shown_carried : (c : UseShadow) → (shown c).carried ≡ c.side.carried
 shown_carried c = shown_by (λ (x : Side). x.carried ≡ c.side.carried) c (λ e. refl) (λ e. refl)
 
-shown_plain : (c : UseShadow) → IsCore c → c.plain ≡ true → IsPlain (shown c).uses.state.frame
+shown_plain : (c : UseShadow) → IsCore c → c.may_step ≡ true → IsPlain (shown c).uses.state.frame
 shown_plain c k p =
     let h = k.plain p in
     shown_by (λ (x : Side). IsPlain x.uses.state.frame) c
@@ -129,7 +125,7 @@ module _ (code : ℕ → ℕ) (c0 c1 : UseShadow) (rec : StepRecord) (m : Bytes)
         → IsUseSeen (shown c0) (shown c2) n others bytes (use_seen code (shown c0).uses.bounds (standing_of (shown c0)) others bytes rec) (Ok tt)
     seen known =
         let S : Side → Side → Type 0 = λ a b. IsUseSeen a b n others bytes (use_seen code a.uses.bounds (standing_of a) others bytes rec) (Ok tt) in
-        let p = inside.plain begun.plain in
+        let p = inside.plain begun.may_step in
         let now : KnowsBytes before.core m (live_in before.uses) others bytes = subst (λ (x : Side). KnowsBytes x.core m (live_in x.uses) others bytes) before_is known in
         let there : S before after =
         seen_in_step code c0.side c0.seen c0.masks c0.vecbase s t rec m n others bytes inside.side begun.outside p.nested p.numbers inside.vectors (made.ready lev) made.state made.owb
@@ -143,15 +139,15 @@ module _ (code : ℕ → ℕ) (c0 c1 : UseShadow) (rec : StepRecord) (m : Bytes)
         let F : Side → List (Option ℕ) → Type 0 = λ x q. get_or (seen_after_write rec.write q) 1 None ≡ get_or x.uses.state.frame.seen 1 None in
         let stack : K c1.side c1.seen = subst (λ (x : Side). K x c1.seen) (sym side_is) (subst (λ (q : List (Option ℕ)). K c0.side q) (sym made.seen) (write_stack begun.stack rec.write free)) in
         let sp : F c1.side c1.seen = subst (λ (x : Side). F x c1.seen) (sym side_is) (subst (λ (q : List (Option ℕ)). F c0.side q) (sym made.seen) (sp_same c0.seen rec.write free ∙ begun.sp)) in
-        let plain = made.plain ∙ begun.plain in
+        let may_step = made.may_step ∙ begun.may_step in
         let outside = ap (λ (x : Side). x.phase) side_is ∙ begun.outside in
         subst IsCore (sym passed.new_is) (record {
           side = next_side c1.side (subst IsUseSide (sym side_is) inside.side);
           vectors = made.vectors ∙ (inside.vectors ∙ ap (λ (x : Side). x.uses.bounds.vecbase) (sym side_is));
           count = count_is;
-          plain = λ e. subst (λ (x : Side). IsPlain x.uses.state.frame) (sym side_is) (inside.plain begun.plain);
-          nested = λ e. made.plain ∙ inside.nested (ap (λ (x : Side). x.phase) (sym side_is) ∙ e);
-          level = λ e. record { plain = plain; outside = outside; sp = sp; stack = stack };
+          plain = λ e. subst (λ (x : Side). IsPlain x.uses.state.frame) (sym side_is) (inside.plain begun.may_step);
+          nested = λ e. made.may_step ∙ inside.nested (ap (λ (x : Side). x.phase) (sym side_is) ∙ e);
+          level = λ e. record { may_step = may_step; outside = outside; sp = sp; stack = stack };
         })
 
     passed_turn : (first : Option FirstUse) → KnowsBytes (shown c0).core m (live_in (shown c0).uses) others bytes → IsTurned code c0 c2 n others bytes first (Ok tt)
@@ -160,11 +156,15 @@ module _ (code : ℕ → ℕ) (c0 c1 : UseShadow) (rec : StepRecord) (m : Bytes)
         let T : List StepRecord → Type 0 = λ xs. Turns code (shown c0) (shown c2) n others bytes xs (records_left code c2) (Ok tt) in
         (subst T (sym made.records) (left, seen known), core)
 
+  -- the walk might put the core in step
+  pub stepped : c1.level ≡ true → c0.may_step ≡ true
+  stepped lev = (inside.level (made.level lev)).may_step
+
   module _ (c2 : UseShadow) (n : Bytes) (others : ℕ → Bool) (bytes : ℕ → ℕ) (first : Option FirstUse) (lev : c1.level ≡ true) where
     pub passed_by : (r : Result Unit End) → IsPassed c1 c2 m n rec r → IfSome rec.access (λ a. is_mapped a ≡ true) → AreFull n
         → KnowsBytes (shown c0).core m (live_in (shown c0).uses) others bytes → IsTurned code c0 c2 n others bytes first r
     passed_by (Ok u) p served full known = passed_turn c2 n others bytes lev p served full first known
-    passed_by (Err Lost) p served full known = tt
+    passed_by (Err Lost) p served full known = stepped lev
     passed_by (Err NoTurn) p served full known = absurd p
     passed_by (Err Breaks) p served full known = absurd p
     passed_by (Err (NoMemory error)) p served full known = absurd p
@@ -182,8 +182,8 @@ module _ (code : ℕ → ℕ) (c0 c1 : UseShadow) (rec : StepRecord) (m : Bytes)
       side = subst IsUseSide (sym whole_is) (shown_side c0 inside);
       vectors = made.vectors ∙ (inside.vectors ∙ (ap (λ (b : Bounds). b.vecbase) (sym (shown_bounds c0)) ∙ ap (λ (x : Side). x.uses.bounds.vecbase) (sym whole_is)));
       count = count_is;
-      plain = λ e. subst (λ (x : Side). IsPlain x.uses.state.frame) (sym whole_is) (shown_plain c0 inside (sym made.plain ∙ e));
-      nested = λ e. made.plain ∙ inside.nested (sym (shown_phase c0) ∙ (ap (λ (x : Side). x.phase) (sym whole_is) ∙ e));
+      plain = λ e. subst (λ (x : Side). IsPlain x.uses.state.frame) (sym whole_is) (shown_plain c0 inside (sym made.may_step ∙ e));
+      nested = λ e. made.may_step ∙ inside.nested (sym (shown_phase c0) ∙ (ap (λ (x : Side). x.phase) (sym whole_is) ∙ e));
       level = λ e. absurd (true≢false (sym e ∙ whole));
     }
 
@@ -200,7 +200,7 @@ module _ (code : ℕ → ℕ) (c0 c1 : UseShadow) (rec : StepRecord) (m : Bytes)
       broken_by : (o : Option FirstUse) → IsFirstIn code (shown c0) (shown c2) n others bytes rec o → IsBrokenBy code c0 c2 n others bytes o
       broken_by None k = absurd k
       broken_by (Some f) k =
-          let out : Result Unit walk_end.End = Err (ended.Breaks f) in
+          let out : Result Unit WalkEnd = Err (Shows f) in
           let T : List StepRecord → Type 0 = λ xs. Turns code (shown c0) (shown c2) n others bytes xs (records_left code c2) out in
           subst T (sym made.records) k
 

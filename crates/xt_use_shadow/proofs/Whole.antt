@@ -1,19 +1,16 @@
 -- A record that is judged as a whole.
-use Rattle.std.proofs.Common.{◌≡◌, ℕ, Bool, true, false, cond, Option, Some, None, Ok, refl, sym, ◌∙◌, ap, subst, ⊎_elim}
-use Rattle.std.proofs.lemmas.Bool.{cases_Bool, cond-false, cond-true}
+use Rattle.std.proofs.Common.{◌≡◌, ℕ, Bool, true, false, Option, Some, None, Ok, refl, sym, ◌∙◌, ap, subst}
 use Rattle.xt_trace.specs.declared.record.StepRecord.{StepRecord}
 use Rattle.xt_frames.specs.declared.kinds.BreachKind.{BreachKind}
-use Rattle.xt_frames.specs.declared.kinds.HandlerPhase.{HandlerPhase}
-use Rattle.xt_frames.specs.declared.kinds.HandlerPhase.TheVariants.{Outside, InHandler, Nested}
-use Rattle.xt_frames.specs.HandlerSteps.{is_window, phase_after}
-use Rattle.xt_frames.specs.Nesting.{is_nesting}
+use Rattle.xt_frames.specs.declared.kinds.HandlerPhase.TheVariants.{Nested}
+use Rattle.xt_frames.specs.HandlerSteps.{phase_after}
 use Rattle.xt_discipline.specs.declared.roles.Role.{Role}
 use Rattle.xt_discipline.specs.declared.roles.Role.TheVariants.{Own, Entry, HandlerStep, NestedStep}
 use Rattle.xt_discipline.specs.Phases.{role_of}
 use Rattle.xt_discipline.proofs.ByRole.{nests}
 use Rattle.xt_shadow.specs.InStep.{IsPlain}
 use Rattle.xt_uses.specs.UseBreaches.{use_breach, window_use}
-use Rattle.xt_uses.specs.UseWalk.{UseHandled, UseSeen, UseStanding, handled_past, live_with, use_seen, use_seen_in, use_seen_judged, use_seen_step, use_seen_window}
+use Rattle.xt_uses.specs.UseWalk.{UseSeen, UseStanding, handled_past, live_with, use_seen, use_seen_step, use_seen_window}
 use Rattle.xt_use_walk.specs.declared.side.Bytes.{Bytes}
 use Rattle.xt_use_walk.specs.declared.side.Side.{Side}
 use Rattle.xt_use_walk.specs.Sides.{IsUsePast, IsUseSeen, standing_of}

@@ -1,12 +1,10 @@
 -- Carries a proof; nothing that a reader must believe.
 -- A core that the walk makes again, and what the walk over records would know of it.
 use Rattle.std.specs.Prelude.{◌≡◌, ℕ, ◌+◌, ◌<◌, Bool, true, false, if◌then◌else◌, Option, Some, None}
-use Rattle.std.specs.Prelude.{Result, Ok, Err, IfSome}
+use Rattle.std.specs.Prelude.{Result, Ok, Err}
 use Rattle.std.specs.Prelude.{List, ◌∷◌, length, slice_index_or, slice_set}
 use Rattle.xt_isa.specs.declared.Insn.{Insn}
-use Rattle.xt_map.specs.Memory.{constant_byte}
 use Rattle.xt_map.specs.History.{replies_of}
-use Rattle.xt_map.specs.Regions.{is_mapped}
 use Rattle.xt_map.specs.declared.access.Access.{Access}
 use Rattle.xt_image.specs.declared.image.Image.{Image}
 use Rattle.xt_trace.specs.declared.record.RegWrite.{RegWrite}
@@ -28,8 +26,8 @@ use Rattle.xt_frames.specs.Frames.{seen_after_write}
 use Rattle.xt_frames.specs.Breaches.{Bounds, is_in_vectors, is_sp}
 use Rattle.xt_frames.specs.Quick.{IsCommon}
 use Rattle.xt_frames.specs.Stacks.{Stack}
-use Rattle.xt_frames.specs.Walked.{opening_walked, stack_of}
-use Rattle.xt_discipline.specs.Schedules.{schedule_in}
+use Rattle.xt_frames.specs.Walked.{stack_of}
+use Rattle.xt_discipline.specs.Verdicts.{course_of}
 use Rattle.xt_shadow.specs.InStep.{AgreesAt, IsNoEpc1, IsPlain, IsReady}
 use Rattle.xt_shadow.specs.Lookups.{IsOperand}
 use Rattle.xt_uses.specs.declared.discipline.Discipline.{Discipline}
@@ -37,17 +35,17 @@ use Rattle.xt_uses.specs.declared.told.JudgeError.TheVariants as stopped
 use Rattle.xt_uses.specs.Lacks.{lacks_before}
 use Rattle.xt_uses.specs.UseLevels.{use_levelled}
 use Rattle.xt_uses.specs.UseParts.{opened_use}
-use Rattle.xt_uses.specs.UseWalk.{UseJudgement, UseKnown, opening_use_known, use_judgement, use_seen}
+use Rattle.xt_uses.specs.UseWalk.{UseJudgement, UseKnown, use_judgement, use_seen}
 use Rattle.xt_uses.specs.Words.{all_bits}
 use Rattle.xt_use_walk.specs.declared.side.Bytes.{Bytes}
 use Rattle.xt_use_walk.specs.declared.side.Side.{Side}
-use Rattle.xt_use_walk.specs.declared.walk.End.TheVariants as ended
 use Rattle.xt_use_walk.specs.declared.walk.FirstUse.{FirstUse}
 use Rattle.xt_use_walk.specs.declared.walk.Uses.{Uses}
-use Rattle.xt_use_walk.specs.declared.walk.Walk.{Walk}
-use Rattle.xt_use_walk.specs.MaskedBytes.{AreFull, AreMasks, IsSpared, mask_at, stored_over}
+use Rattle.xt_use_walk.specs.MaskedBytes.{AreMasks, IsSpared, mask_at, stored_over}
 use Rattle.xt_use_walk.specs.Sides.{IsUseSeen, IsUseSide, standing_of}
-use Rattle.xt_use_walk.specs.Walks.{IsShown, IsTold, IsWhole, Knows, Reaches, Turns}
+use Rattle.xt_use_walk.specs.Verdicts.{IsUsesOf}
+use Rattle.xt_use_walk.specs.Walks.{IsShown, IsTold, IsWhole, Knows, NoRecord, Reaches, Shows, Turns}
+use Rattle.xt_use_walk.specs.Walks.{Walk}
 use Rattle.xt_use_walk.specs.Walks as walks
 use Rattle.xt_use_shadow.specs.declared.cores.UseShadow.{UseShadow}
 use Rattle.xt_use_shadow.specs.declared.seeing.End.{End}
@@ -87,7 +85,7 @@ abbrev pub HasSp : UseShadow → Type 0
 HasSp c = slice_index_or c.seen 1 None ≡ slice_index_or c.side.uses.state.frame.seen 1 None
 
 pub record IsLevelled (c : UseShadow) : Type 0 where
-  pub plain : c.plain ≡ true
+  pub may_step : c.may_step ≡ true
   pub outside : c.side.phase ≡ Outside
   pub sp : HasSp c
   pub stack : Stack c.side.uses.bounds.range.lo c.side.uses.bounds.range.hi c.seen
@@ -97,8 +95,8 @@ pub record IsCore (c : UseShadow) : Type 0 where
   pub side : IsUseSide c.side
   pub vectors : c.vecbase ≡ c.side.uses.bounds.vecbase
   pub count : length (core_state c).control.special ≡ 256
-  pub plain : c.plain ≡ true → IsPlain c.side.uses.state.frame
-  pub nested : c.side.phase ≡ Nested → c.plain ≡ false
+  pub plain : c.may_step ≡ true → IsPlain c.side.uses.state.frame
+  pub nested : c.side.phase ≡ Nested → c.may_step ≡ false
   pub level : c.level ≡ true → IsLevelled c
 
 -- ---- a turn
@@ -126,7 +124,7 @@ pub record IsStarted (code : ℕ → ℕ) (old new : UseShadow) : Type 0 where
   pub side : new.side ≡ (if new.level then old.side else shown old)
   pub seen : new.seen ≡ old.seen
   pub masks : new.masks ≡ old.masks
-  pub plain : new.plain ≡ old.plain
+  pub may_step : new.may_step ≡ old.may_step
   pub vectors : new.vecbase ≡ old.vecbase
   pub left : new.left ≡ old.left
   pub level : new.level ≡ true → old.level ≡ true
@@ -148,7 +146,7 @@ pub record IsMade (code : ℕ → ℕ) (bytes : Bytes) (old new : UseShadow) (re
     pub side : new.side ≡ (if new.level then old.side else shown old)
     pub seen : new.seen ≡ old.seen
     pub masks : new.masks ≡ old.masks
-    pub plain : new.plain ≡ old.plain
+    pub may_step : new.may_step ≡ old.may_step
     pub vectors : new.vecbase ≡ old.vecbase
     pub level : new.level ≡ true → old.level ≡ true
     pub ready :
@@ -239,7 +237,7 @@ IsBrokenBy code old new bytes others masks None = ⊥
 IsBrokenBy code old new bytes others masks (Some first) =
     Turns code (shown old) (shown new) bytes others masks (records_left code old)
     (records_left code new)
-    (Err (ended.Breaks first))
+    (Err (Shows first))
 
 abbrev pub IsTurned :
     (ℕ → ℕ) → UseShadow → UseShadow → Bytes → (ℕ → Bool) → (ℕ → ℕ) → Option FirstUse
@@ -252,14 +250,15 @@ IsTurned code old new bytes others masks first (Ok u) =
 IsTurned code old new bytes others masks first (Err NoTurn) =
     Turns code (shown old) (shown new) bytes others masks (records_left code old)
     (records_left code new)
-    (Err ended.NoRecord)
+    (Err NoRecord)
 IsTurned code old new bytes others masks first (Err Breaks) =
     IsBrokenBy code old new bytes others masks first
 IsTurned code old new bytes others masks first (Err (NoMemory error)) = Unit {0}
-IsTurned code old new bytes others masks first (Err Lost) = Unit {0}
+IsTurned code old new bytes others masks first (Err Lost) = old.may_step ≡ true
 
 -- ---- a core as it opens
-pub record IsOpenedCore (d : Discipline) (image : Image) (r : Run) (core : ℕ) (c : UseShadow) : Type 0
+pub record IsOpenedCore
+    (d : Discipline) (image : Image) (r : Run) (core : ℕ) (stepping : Bool) (c : UseShadow) : Type 0
   where
     pub side : c.side ≡ record {
       core = core;
@@ -273,6 +272,7 @@ pub record IsOpenedCore (d : Discipline) (image : Image) (r : Run) (core : ℕ) 
     pub left : c.left ≡ turns_of core r.options
     pub replies : c.replies ≡ replies_of core r.history
     pub level : c.level ≡ false
+    pub may_step : c.may_step ≡ stepping
     pub vectors : c.vecbase ≡ r.options.vecbase
 
 -- ---- both cores
@@ -294,6 +294,11 @@ pub record KnowsBoth (w : UseShadowWalk) (b0 b1 : Bounds) (k : UseKnown) : Type 
   pub cores : AreCores w
   pub knows : Knows (shown_walk w) b0 b1 k
 
+-- the walk judges each turn as a whole
+pub record NeverSteps (w : UseShadowWalk) : Type 0 where
+  pub zero : w.side0.may_step ≡ false
+  pub one : w.side1.may_step ≡ false
+
 -- what a turn of a core comes to
 abbrev pub IsBrokenWalk :
     (ℕ → ℕ) → Bounds → Bounds → ℕ → UseKnown → UseShadowWalk → UseShadowWalk → Option FirstUse
@@ -304,7 +309,7 @@ IsBrokenWalk code b0 b1 core k old new (Some first) =
     (shown_walk new)
     (records_left code new.side0)
     (records_left code new.side1)
-    (Err (ended.Breaks first))
+    (Err (Shows first))
 
 abbrev pub IsWalked :
     (ℕ → ℕ) → Bounds → Bounds → ℕ → UseKnown → UseShadowWalk → UseShadowWalk → Result Unit End
@@ -321,10 +326,10 @@ IsWalked code b0 b1 core k old new (Err NoTurn) =
     (shown_walk new)
     (records_left code new.side0)
     (records_left code new.side1)
-    (Err ended.NoRecord)
+    (Err NoRecord)
 IsWalked code b0 b1 core k old new (Err Breaks) = IsBrokenWalk code b0 b1 core k old new new.first
 IsWalked code b0 b1 core k old new (Err (NoMemory error)) = Unit {0}
-IsWalked code b0 b1 core k old new (Err Lost) = Unit {0}
+IsWalked code b0 b1 core k old new (Err Lost) = NeverSteps old → ⊥
 
 -- over the records that are left, in this order
 abbrev pub judged_from :
@@ -346,11 +351,11 @@ IsFound code j k old new (Err NoTurn) =
     IsWhole j (shown new.side0).carried (shown new.side1).carried
 IsFound code j k old new (Err Breaks) = IsShownIn code j k old new.first
 IsFound code j k old new (Err (NoMemory error)) = Unit {0}
-IsFound code j k old new (Err Lost) = Unit {0}
+IsFound code j k old new (Err Lost) = NeverSteps old → ⊥
 
 abbrev pub IsFoundIn :
     (ℕ → ℕ) → UseJudgement → UseKnown → UseShadowWalk → Option Uses → Type 0
-IsFoundIn code j k old None = Unit {0}
+IsFoundIn code j k old None = NeverSteps old → ⊥
 IsFoundIn code j k old (Some uses) =
     IsTold code j k (records_left code old.side0) (records_left code old.side1) uses
 
@@ -359,13 +364,23 @@ pub record HasReached
     (code : ℕ → ℕ) (b0 b1 : Bounds) (k : UseKnown) (cores : List ℕ) (old w : UseShadowWalk)
     (turns : ℕ) : Type 0 where
   pub cores_are : AreCores w
+  pub never : NeverSteps old → NeverSteps w
   pub reaches : Reaches code b0 b1 k cores (records_left code old.side0)
       (records_left code old.side1) (shown_walk w) turns (records_left code w.side0)
       (records_left code w.side1)
 
 -- both cores of a run of an image as it opens
-pub record IsOpenedWalk (d : Discipline) (image : Image) (r : Run) (w : UseShadowWalk) : Type 0 where
-  pub cores : AreCores w
-  pub opened : walks.IsOpened d (shown_walk w) image.segments image.entry r.options
-  pub records0 : records_left (code_of image) w.side0 ≡ (records_of 0 image r).records
-  pub records1 : records_left (code_of image) w.side1 ≡ (records_of 1 image r).records
+pub record IsOpenedWalk
+    (d : Discipline) (image : Image) (r : Run) (may_step : Bool) (w : UseShadowWalk) : Type 0
+  where
+    pub cores : AreCores w
+    pub never : may_step ≡ false → NeverSteps w
+    pub opened : walks.IsOpened d (shown_walk w) image.segments image.entry r.options
+    pub records0 : records_left (code_of image) w.side0 ≡ (records_of 0 image r).records
+    pub records1 : records_left (code_of image) w.side1 ≡ (records_of 1 image r).records
+
+-- what is said of the run by a walk over its turns, where the handlers pass the check: nothing only
+-- if the walk may put a core in step
+abbrev pub IsUsesOver : Discipline → Image → Run → Bool → Option Uses → Type 0
+IsUsesOver d image r may_step None = may_step ≡ true
+IsUsesOver d image r may_step (Some uses) = IsUsesOf d true (course_of image r) uses

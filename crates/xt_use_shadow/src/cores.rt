@@ -26,7 +26,7 @@ use crate::file::UseFile;
 use crate::seeing::{End, see};
 use std::alloc::{AllocError, Global};
 use xt_codec::Fetch;
-use xt_core::{Replies, StartedTurn, end_turn, head_of, left_past, started};
+use xt_core::{Replies, end_turn, head_of, left_past, local_turn};
 use xt_exec::plans::{Effect, Plan};
 use xt_exec::{Regs, plan};
 use xt_frames::HandlerPhase;
@@ -53,8 +53,9 @@ pub struct UseShadow<'a> {
     pub replies: Replies<'a>,
     /// Whether the core is in step: the frames have the control state of the processor, but for EPC1.
     pub level: bool,
-    /// Whether no interrupt has come in the middle of a window handler.
-    pub plain: bool,
+    /// Whether the walk may put the core in step. After an interrupt in the middle of a window
+    /// handler it may not.
+    pub may_step: bool,
     /// In step the visible registers of the newest frame.
     pub seen: [Option<u32>; 16],
     /// And the known bits of each.
@@ -67,7 +68,8 @@ pub struct UseShadow<'a> {
 }
 
 impl<'a> UseShadow<'a> {
-    /// A core of a run as it opens. The only error is running out of memory.
+    /// A core of a run as it opens. `may_step` says whether the walk may put it in step. The only
+    /// error is running out of memory.
     ///
     /// Conditions: the core is 0 or 1, and the run is the image's.
     pub fn open(
@@ -76,10 +78,11 @@ impl<'a> UseShadow<'a> {
         image: &Image,
         run: &'a Run,
         core: u8,
+        may_step: bool,
     ) -> Result<UseShadow<'a>, AllocError>
         requires core { core < 2 }
         requires run { IsRunOf image.now run.now }
-        ensures { IfOk result (λ c. IsOpenedCore discipline image.now run.now core c) }
+        ensures { IfOk result (λ c. IsOpenedCore discipline image.now run.now core may_step c) }
     {
         let options = &run.options;
         let (entry, turns, stack) = if core == 0 {
@@ -94,7 +97,7 @@ impl<'a> UseShadow<'a> {
             left: turns,
             replies: Replies::of(run, core),
             level: false,
-            plain: true,
+            may_step,
             seen: [None; 16],
             masks: [0; 16],
             vecbase: options.vecbase,
@@ -267,9 +270,9 @@ impl<'a> UseShadow<'a> {
     {
         let head = head_of(&self.regs);
         let plan = self.start(lookups);
-        match started(&mut self.regs, head, plan) {
-            StartedTurn::Local(record) => record,
-            StartedTurn::Asks(pending) => {
+        match plan {
+            Plan::Done(effect) => local_turn(&mut self.regs, head, effect),
+            Plan::Bus(_, pending) => {
                 self.ask(bytes, pending.access);
                 let reply = self.replies.next();
                 end_turn(&mut self.regs, pending, reply)
@@ -330,7 +333,7 @@ impl<'a> UseShadow<'a> {
         ensures shown { shown self.new ≡ self.old.side }
         ensures rest { self.new ≡ record self.old { seen = self.new.seen; masks = self.new.masks; level = self.new.level; near = self.new.near } }
     {
-        if !self.plain {
+        if !self.may_step {
             return;
         }
         // (so that its stack is known)
@@ -367,6 +370,7 @@ impl<'a> UseShadow<'a> {
         requires known { (others : ℕ → Bool) × (masks : ℕ → ℕ) × KnowsBytes self.old.side.core bytes.old (live_in self.old.side.uses) others masks }
         ensures full { AreFull bytes.new }
         ensures kept { (code : ℕ → ℕ) → records_left code self.new ≡ records_left code self.old }
+        ensures never { self.old.may_step ≡ false → self.new.may_step ≡ false }
         ensures seen { (others : ℕ → Bool) (masks : ℕ → ℕ) → KnowsBytes self.old.side.core bytes.old (live_in self.old.side.uses) others masks
             → IsSeenBy (constant_byte code.now) self.old self.new bytes.new others masks rec first.new result }
     {
@@ -374,7 +378,7 @@ impl<'a> UseShadow<'a> {
         match self.side.phase {
             HandlerPhase::Outside => self.find_level(),
             HandlerPhase::InHandler => {}
-            HandlerPhase::Nested => self.plain = false,
+            HandlerPhase::Nested => self.may_step = false,
         }
         Ok(())
     }
@@ -394,6 +398,7 @@ impl<'a> UseShadow<'a> {
         requires known { (others : ℕ → Bool) × (masks : ℕ → ℕ) × KnowsBytes (shown self.old).core bytes.old (live_in (shown self.old).uses) others masks }
         ensures full { AreFull bytes.new }
         ensures code { lookups.new ≡ lookups.old }
+        ensures never { self.old.may_step ≡ false → self.new.may_step ≡ false }
         ensures turned { (others : ℕ → Bool) (masks : ℕ → ℕ) → KnowsBytes (shown self.old).core bytes.old (live_in (shown self.old).uses) others masks
             → IsTurned (constant_byte lookups.old) self.old self.new bytes.new others masks first.new result }
     {

@@ -9,7 +9,7 @@ ghost use Rattle.xt_frames.specs.Breaches.{Bounds};
 ghost use Rattle.xt_discipline.specs.Schedules.{HasSchedule, schedule_in};
 ghost use Rattle.xt_uses.specs.UseWalk.{UseKnown};
 ghost use Rattle.xt_use_walk.specs.declared.walk.Uses.TheVariants.{Whole};
-ghost use Rattle.xt_use_shadow.specs.Shadows.{IsFound, IsFoundIn, IsOpenedWalk, IsWalked, KnowsBoth, judged_from, shown};
+ghost use Rattle.xt_use_shadow.specs.Shadows.{IsFound, IsFoundIn, IsOpenedWalk, IsWalked, KnowsBoth, NeverSteps, judged_from, shown};
 
 use crate::cores::UseShadow;
 use crate::seeing::End;
@@ -35,21 +35,23 @@ pub struct UseShadowWalk<'a> {
 }
 
 impl<'a> UseShadowWalk<'a> {
-    /// Both cores as a run of an image opens. The only error is running out of memory.
+    /// Both cores as a run of an image opens. `may_step` says whether the walk may put them in step;
+    /// if not, it judges each turn as a whole. The only error is running out of memory.
     pub fn open(
         alloc: Global,
         discipline: Discipline,
         image: &'a Image,
         run: &'a Run,
+        may_step: bool,
     ) -> Result<UseShadowWalk<'a>, AllocError>
         requires run { IsRunOf image.now run.now }
         requires placed { IsPlaced image.now.segments }
-        ensures { IfOk result (λ w. IsOpenedWalk discipline image.now run.now w) }
+        ensures { IfOk result (λ w. IsOpenedWalk discipline image.now run.now may_step w) }
     {
         let constants = Constants::make(alloc, image.segments.as_slice())?;
         let code = Lookups::make(alloc, constants)?;
-        let side0 = UseShadow::open(alloc, discipline, image, run, 0)?;
-        let side1 = UseShadow::open(alloc, discipline, image, run, 1)?;
+        let side0 = UseShadow::open(alloc, discipline, image, run, 0, may_step)?;
+        let side1 = UseShadow::open(alloc, discipline, image, run, 1, may_step)?;
         let bytes = opening_bytes(alloc, discipline, &run.options)?;
         Ok(UseShadowWalk {
             code,
@@ -66,7 +68,8 @@ impl<'a> UseShadowWalk<'a> {
         requires core { core < 2 }
         requires known { (b0 : Bounds) × (b1 : Bounds) × (k : UseKnown) × KnowsBoth self.old b0 b1 k }
         requires room { (shown self.old.side0).steps + (shown self.old.side1).steps + 1 < 2 ^ 32 }
-        ensures { (b0 b1 : Bounds) (k : UseKnown) → KnowsBoth self.old b0 b1 k → IsWalked (constant_byte self.old.code) b0 b1 core k self.old self.new result }
+        ensures never { NeverSteps self.old → NeverSteps self.new }
+        ensures turned { (b0 b1 : Bounds) (k : UseKnown) → KnowsBoth self.old b0 b1 k → IsWalked (constant_byte self.old.code) b0 b1 core k self.old self.new result }
     {
         if core == 0 {
             self.side0
@@ -98,8 +101,8 @@ impl<'a> UseShadowWalk<'a> {
         Uses::Whole(self.side0.side.carried, self.side1.side.carried)
     }
 
-    /// What the discipline says of a run, from here on; nothing where a turn was made in step that has
-    /// to be judged as a whole.
+    /// What the discipline says of a run, from here on; nothing if a turn was made in step that has
+    /// to be judged as a whole. If the walk may put no core in step, it always says something.
     pub fn judge(&mut self, run: &Run) -> Result<Option<Uses>, AllocError>
         requires schedule { HasSchedule run.now }
         requires known { (b0 : Bounds) × (b1 : Bounds) × (k : UseKnown) × KnowsBoth self.old b0 b1 k }

@@ -11,7 +11,6 @@ pub mod Reaching
 pub mod Numbered
 pub mod Said
 pub mod Openings
-pub mod Turning
 pub mod OneAnswer
 pub mod Forgetting
 pub mod Filling

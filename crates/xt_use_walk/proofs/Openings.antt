@@ -17,10 +17,9 @@ use Rattle.xt_uses.specs.UseState.{one_opens_unknown, opening_use, opens_unknown
 use Rattle.xt_uses.specs.UseParts.{UseWalked, opened_use}
 use Rattle.xt_uses.specs.UseWalk.{opening_masks, opening_use_standing}
 use Rattle.xt_use_walk.specs.declared.side.Side.{Side}
-use Rattle.xt_use_walk.specs.declared.walk.Walk.{Walk}
 use Rattle.xt_use_walk.specs.MaskedBytes.{AreBytes, KnowsBytes, is_byte}
 use Rattle.xt_use_walk.specs.Sides.{live_in}
-use Rattle.xt_use_walk.specs.Walks.{AreOpened, IsKnown, IsOpened, below_opening}
+use Rattle.xt_use_walk.specs.Walks.{AreOpened, IsKnown, IsOpened, Walk, below_opening}
 
 abbrev pub side_at : ℕ → ℕ → UseWalked → Side
 side_at core hi uses = record { core = core; hi = hi; uses = uses; phase = Outside; steps = 0; carried = 0 }

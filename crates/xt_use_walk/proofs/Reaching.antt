@@ -1,18 +1,13 @@
 -- The walk along a schedule.
-use Rattle.std.proofs.Common.{◌≡◌, ℕ, zero, suc, ◌+◌, ◌<◌, ◌≤◌, ◌^◌, All, None, Result, Ok, Err, List, [], ◌∷◌, length, drop, get_or, slice_get, refl, sym, ◌∙◌, ap, subst, arith}
+use Rattle.std.proofs.Common.{◌≡◌, ℕ, zero, suc, ◌+◌, ◌<◌, ◌≤◌, ◌^◌, None, Result, Ok, Err, List, [], ◌∷◌, length, drop, get_or, slice_get, refl, sym, ◌∙◌, ap, subst, arith}
 use Rattle.std.proofs.lemmas.List.{drop_more, drop_all, drop-drop}
-use Rattle.std.proofs.lemmas.List.Elements.{All-drop}
 use Rattle.xt_map.specs.Memory.{constant_byte}
 use Rattle.xt_trace.specs.declared.record.StepRecord.{StepRecord}
 use Rattle.xt_frames.specs.Breaches.{Bounds}
 use Rattle.xt_discipline.specs.Ended.{records_left}
 use Rattle.xt_uses.specs.UseWalk.{UseJudgement, UseKnown, use_judgement}
-use Rattle.xt_use_walk.specs.declared.walk.End.{End}
-use Rattle.xt_use_walk.specs.declared.walk.End.TheVariants.{NoRecord, Breaks, NoMemory}
 use Rattle.xt_use_walk.specs.declared.walk.FirstUse.{FirstUse}
-use Rattle.xt_use_walk.specs.declared.walk.Walk.{Walk}
-use Rattle.xt_use_walk.specs.Verdicts.{IsServed}
-use Rattle.xt_use_walk.specs.Walks.{Advances, AreTaken, IsEnded, IsShown, IsTurned, IsWhole, Knows, Reaches, standing_in}
+use Rattle.xt_use_walk.specs.Walks.{Advances, AreTaken, IsEnded, IsShown, IsTurned, IsWhole, Knows, NoRecord, Reaches, Shows, Walk, WalkEnd, standing_in}
 use Rattle.xt_use_walk.proofs.Walking.{carried_known, steps_known}
 
 -- ---- records that are taken, some after others
@@ -61,10 +56,9 @@ shown_before code j i k n xs ys xs1 ys1 first p s =
       lacks = s.lacks;
     }
 
-ended_before : (code : ℕ → ℕ) (j : UseJudgement) (i : ℕ) (k n : UseKnown) (xs ys xs1 ys1 : List StepRecord) (w : Walk) (end : End) → Advances i k n xs ys xs1 ys1 → IsEnded code j n xs1 ys1 w end → IsEnded code j k xs ys w end
+ended_before : (code : ℕ → ℕ) (j : UseJudgement) (i : ℕ) (k n : UseKnown) (xs ys xs1 ys1 : List StepRecord) (w : Walk) (end : WalkEnd) → Advances i k n xs ys xs1 ys1 → IsEnded code j n xs1 ys1 w end → IsEnded code j k xs ys w end
 ended_before code j i k n xs ys xs1 ys1 w NoRecord p e = e
-ended_before code j i k n xs ys xs1 ys1 w (Breaks first) p e = shown_before code j i k n xs ys xs1 ys1 first p e
-ended_before code j i k n xs ys xs1 ys1 w (NoMemory error) p e = tt
+ended_before code j i k n xs ys xs1 ys1 w (Shows first) p e = shown_before code j i k n xs ys xs1 ys1 first p e
 
 -- ---- so many turns of a schedule
 pub reach_none : (code : ℕ → ℕ) (w : Walk) (b0 b1 : Bounds) (k : UseKnown) (cs : List ℕ) (xs ys : List StepRecord) → Knows w b0 b1 k → constant_byte w.code ≡ code → Reaches code b0 b1 k cs xs ys w 0 xs ys
@@ -94,7 +88,7 @@ reach_more code w new b0 b1 k cs i core d xs ys xs1 ys1 xs2 ys2 u lt is r t =
       judged = r.judged ∙ (ap (λ (l : List ℕ). use_judgement code b0 b1 l xs1 ys1 r.known) split ∙ t.4 (drop (i + 1) cs));
     }
 
-reach_ends : (code : ℕ → ℕ) (w new : Walk) (b0 b1 : Bounds) (k : UseKnown) (cs : List ℕ) (i core d : ℕ) (xs ys xs1 ys1 xs2 ys2 : List StepRecord) (end : End) → i < length cs → core ≡ get_or cs i d
+reach_ends : (code : ℕ → ℕ) (w new : Walk) (b0 b1 : Bounds) (k : UseKnown) (cs : List ℕ) (i core d : ℕ) (xs ys xs1 ys1 xs2 ys2 : List StepRecord) (end : WalkEnd) → i < length cs → core ≡ get_or cs i d
     → (r : Reaches code b0 b1 k cs xs ys w i xs1 ys1) → IsTurned code b0 b1 core r.known xs1 ys1 new xs2 ys2 (Err end) → IsEnded code (use_judgement code b0 b1 cs xs ys k) k xs ys new end
 reach_ends code w new b0 b1 k cs i core d xs ys xs1 ys1 xs2 ys2 end lt is r t =
     let split : drop i cs ≡ core ∷ drop (i + 1) cs = drop_more cs i d lt ∙ ap (λ (c : ℕ). c ∷ drop (i + 1) cs) (sym is) in
@@ -103,18 +97,18 @@ reach_ends code w new b0 b1 k cs i core d xs ys xs1 ys1 xs2 ys2 end lt is r t =
     (subst (λ (j : UseJudgement). IsEnded code j r.known xs1 ys1 new end) same (t (drop (i + 1) cs)))
 
 -- ---- by the answer of a turn
-pub reach_turn : (code : ℕ → ℕ) (w new : Walk) (b0 b1 : Bounds) (k : UseKnown) (cs : List ℕ) (i core d : ℕ) (xs ys xs1 ys1 xs2 ys2 : List StepRecord) (out : Result Unit End) (u : Unit) → out ≡ Ok u → i < length cs → core ≡ get_or cs i d
+pub reach_turn : (code : ℕ → ℕ) (w new : Walk) (b0 b1 : Bounds) (k : UseKnown) (cs : List ℕ) (i core d : ℕ) (xs ys xs1 ys1 xs2 ys2 : List StepRecord) (out : Result Unit WalkEnd) (u : Unit) → out ≡ Ok u → i < length cs → core ≡ get_or cs i d
     → (r : Reaches code b0 b1 k cs xs ys w i xs1 ys1) → IsTurned (constant_byte w.code) b0 b1 core r.known xs1 ys1 new xs2 ys2 out → Reaches code b0 b1 k cs xs ys new (i + 1) xs2 ys2
 reach_turn code w new b0 b1 k cs i core d xs ys xs1 ys1 xs2 ys2 out u e lt is r t =
     reach_more code w new b0 b1 k cs i core d xs ys xs1 ys1 xs2 ys2 u lt is r
-    (subst (λ (f : ℕ → ℕ). IsTurned f b0 b1 core r.known xs1 ys1 new xs2 ys2 (Ok u)) r.code_is (subst (λ (x : Result Unit End). IsTurned (constant_byte w.code) b0 b1 core r.known xs1 ys1 new xs2 ys2 x) e t))
+    (subst (λ (f : ℕ → ℕ). IsTurned f b0 b1 core r.known xs1 ys1 new xs2 ys2 (Ok u)) r.code_is (subst (λ (x : Result Unit WalkEnd). IsTurned (constant_byte w.code) b0 b1 core r.known xs1 ys1 new xs2 ys2 x) e t))
 
-pub reach_err : (code : ℕ → ℕ) (w new : Walk) (b0 b1 : Bounds) (k : UseKnown) (cs : List ℕ) (i core d : ℕ) (xs ys xs1 ys1 xs2 ys2 : List StepRecord) (out : Result Unit End) (end : End) → out ≡ Err end → i < length cs → core ≡ get_or cs i d
+pub reach_err : (code : ℕ → ℕ) (w new : Walk) (b0 b1 : Bounds) (k : UseKnown) (cs : List ℕ) (i core d : ℕ) (xs ys xs1 ys1 xs2 ys2 : List StepRecord) (out : Result Unit WalkEnd) (end : WalkEnd) → out ≡ Err end → i < length cs → core ≡ get_or cs i d
     → (r : Reaches code b0 b1 k cs xs ys w i xs1 ys1) → IsTurned (constant_byte w.code) b0 b1 core r.known xs1 ys1 new xs2 ys2 out → IsEnded code (use_judgement code b0 b1 cs xs ys k) k xs ys new end
 reach_err code w new b0 b1 k cs i core d xs ys xs1 ys1 xs2 ys2 out end e lt is r t =
-    let err : Result Unit End = Err end in
+    let err : Result Unit WalkEnd = Err end in
     reach_ends code w new b0 b1 k cs i core d xs ys xs1 ys1 xs2 ys2 end lt is r
-    (subst (λ (f : ℕ → ℕ). IsTurned f b0 b1 core r.known xs1 ys1 new xs2 ys2 err) r.code_is (subst (λ (x : Result Unit End). IsTurned (constant_byte w.code) b0 b1 core r.known xs1 ys1 new xs2 ys2 x) e t))
+    (subst (λ (f : ℕ → ℕ). IsTurned f b0 b1 core r.known xs1 ys1 new xs2 ys2 err) r.code_is (subst (λ (x : Result Unit WalkEnd). IsTurned (constant_byte w.code) b0 b1 core r.known xs1 ys1 new xs2 ys2 x) e t))
 
 pub reach_all : (code : ℕ → ℕ) (w : Walk) (b0 b1 : Bounds) (k : UseKnown) (cs : List ℕ) (i : ℕ) (xs ys xs1 ys1 : List StepRecord) → length cs ≤ i
     → Reaches code b0 b1 k cs xs ys w i xs1 ys1 → IsWhole (use_judgement code b0 b1 cs xs ys k) w.side0.carried w.side1.carried
@@ -137,13 +131,3 @@ reach_room code old w b0 b1 k cs i xs ys xs1 ys1 h r lt room =
     let a0 : old.side0.steps ≡ k.first.steps = steps_known old.side0 0 b0 k.first h.zero in
     let a1 : old.side1.steps ≡ k.second.steps = steps_known old.side1 1 b1 k.second h.one in
     omega (arith, s0, s1, t0, t1, sum, a0, a1, lt, room)
-
--- ---- the records that are left are served as all are
-pub served_left : (c s s1 : ℕ) (xs left : List StepRecord) → AreTaken c s s1 xs left → All IsServed xs → All IsServed left
-served_left c s s1 xs left t h = subst (All IsServed) (sym t.left_are) (All-drop IsServed c xs h)
-
-pub served_0 : (code : ℕ → ℕ) (w : Walk) (b0 b1 : Bounds) (k : UseKnown) (cs : List ℕ) (i : ℕ) (xs ys xs1 ys1 : List StepRecord) → Reaches code b0 b1 k cs xs ys w i xs1 ys1 → All IsServed xs → All IsServed xs1
-served_0 code w b0 b1 k cs i xs ys xs1 ys1 r h = let a = r.advances in served_left a.count0 k.first.steps r.known.first.steps xs xs1 a.zero h
-
-pub served_1 : (code : ℕ → ℕ) (w : Walk) (b0 b1 : Bounds) (k : UseKnown) (cs : List ℕ) (i : ℕ) (xs ys xs1 ys1 : List StepRecord) → Reaches code b0 b1 k cs xs ys w i xs1 ys1 → All IsServed ys → All IsServed ys1
-served_1 code w b0 b1 k cs i xs ys xs1 ys1 r h = let a = r.advances in served_left a.count1 k.second.steps r.known.second.steps ys ys1 a.one h

@@ -1,5 +1,5 @@
 -- What the walk finds is what is said of the run.
-use Rattle.std.proofs.Common.{◌≡◌, ℕ, zero, suc, ◌+◌, ◌<◌, Bool, true, false, Option, Some, None, Result, Ok, Err, IfOk, List, length, slice_get, refl, sym, ◌∙◌, ap, subst, arith}
+use Rattle.std.proofs.Common.{◌≡◌, ℕ, zero, suc, ◌+◌, ◌<◌, true, Option, Some, None, List, length, slice_get, refl, sym, ◌∙◌, ap, subst, arith}
 use Rattle.std.proofs.lemmas.Option.{same_Some}
 use Rattle.xt_map.specs.declared.segment.Segment.{Segment}
 use Rattle.xt_map.specs.Memory.{constant_byte}
@@ -22,9 +22,8 @@ use Rattle.xt_uses.proofs.UseFirst.{walk_finds}
 use Rattle.xt_use_walk.specs.declared.walk.FirstUse.{FirstUse}
 use Rattle.xt_use_walk.specs.declared.walk.Uses.{Uses}
 use Rattle.xt_use_walk.specs.declared.walk.Uses.TheVariants.{Unchecked, Whole, Broken}
-use Rattle.xt_use_walk.specs.declared.walk.Walk.{Walk}
 use Rattle.xt_use_walk.specs.Verdicts.{IsBroken, IsSaid, IsUsesOf}
-use Rattle.xt_use_walk.specs.Walks.{IsOpened, IsShown, IsTold, IsWhole, standing_in}
+use Rattle.xt_use_walk.specs.Walks.{IsOpened, IsShown, IsTold, IsWhole, Walk, standing_in}
 use Rattle.xt_use_walk.proofs.Numbered.{record_at}
 
 -- ---- no breach
@@ -77,12 +76,12 @@ said d r b0 b1 f0 f1 cs xs ys j (Whole n m) is u t = said_whole d r j n m u t
 said d r b0 b1 f0 f1 cs xs ys j (Broken first) is u t = said_broken d r b0 b1 f0 f1 cs xs ys j first is u t
 
 -- ---- in the words of the image and its run
-pub uses_are : (d : Discipline) (w : Walk) (code : List Segment) (image : Image) (r : Run) (xs ys : List StepRecord) (uses : Uses) (good : Bool) → good ≡ true → IsOpened d w code image.entry r.options → code ≡ image.segments
+pub uses_are : (d : Discipline) (w : Walk) (code : List Segment) (image : Image) (r : Run) (xs ys : List StepRecord) (uses : Uses) → IsOpened d w code image.entry r.options → code ≡ image.segments
     → IsTold (constant_byte w.code)
     (use_judgement (constant_byte w.code) (opening_walked 0 image.entry r.options).bounds (opening_walked 1 r.options.entry1 r.options).bounds (schedule_in r) xs ys (opening_use_known d (opening_walked 0 image.entry r.options).bounds (opening_walked 1 r.options.entry1 r.options).bounds (opening_walked 0 image.entry r.options).state (opening_walked 1 r.options.entry1 r.options).state))
     (opening_use_known d (opening_walked 0 image.entry r.options).bounds (opening_walked 1 r.options.entry1 r.options).bounds (opening_walked 0 image.entry r.options).state (opening_walked 1 r.options.entry1 r.options).state) xs ys uses
-    → IsUsesOf d good (course_in image r xs ys) uses
-uses_are d w code image r xs ys uses good e o code_is told =
+    → IsUsesOf d true (course_in image r xs ys) uses
+uses_are d w code image r xs ys uses o code_is told =
     let a = opening_walked 0 image.entry r.options in
     let b = opening_walked 1 r.options.entry1 r.options in
     let k = opening_use_known d a.bounds b.bounds a.state b.state in
@@ -90,16 +89,4 @@ uses_are d w code image r xs ys uses good e o code_is told =
     let c = course_in image r xs ys in
     let j = use_judgement (constant_byte image.segments) a.bounds b.bounds (schedule_in r) xs ys k in
     let found : IsUseJudgement d c j = walk_finds d (constant_byte image.segments) a.bounds b.bounds (schedule_in r) xs ys a.state b.state in
-    subst (λ (g : Bool). IsUsesOf d g c uses) (sym e)
-    (said d c a.bounds b.bounds a.state b.state (schedule_in r) xs ys j uses refl found (subst T (o.code_is ∙ code_is) told))
-
-pub all_uses_are : {E : Type 0} (d : Discipline) (w : Walk) (code : List Segment) (image : Image) (r : Run) (xs ys : List StepRecord) (out : Result Uses E) (good : Bool) → good ≡ true → IsOpened d w code image.entry r.options → code ≡ image.segments
-    → IfOk out (IsTold (constant_byte w.code)
-    (use_judgement (constant_byte w.code) (opening_walked 0 image.entry r.options).bounds (opening_walked 1 r.options.entry1 r.options).bounds (schedule_in r) xs ys (opening_use_known d (opening_walked 0 image.entry r.options).bounds (opening_walked 1 r.options.entry1 r.options).bounds (opening_walked 0 image.entry r.options).state (opening_walked 1 r.options.entry1 r.options).state))
-    (opening_use_known d (opening_walked 0 image.entry r.options).bounds (opening_walked 1 r.options.entry1 r.options).bounds (opening_walked 0 image.entry r.options).state (opening_walked 1 r.options.entry1 r.options).state) xs ys)
-    → IfOk out (λ uses. IsUsesOf d good (course_in image r xs ys) uses)
-all_uses_are d w code image r xs ys (Ok uses) good e o code_is told = uses_are d w code image r xs ys uses good e o code_is told
-all_uses_are d w code image r xs ys (Err error) good e o code_is told = tt
-
-pub none_said : (d : Discipline) (good : Bool) (r : Course) → good ≡ false → IsUsesOf d good r Unchecked
-none_said d good r e = subst (λ (g : Bool). IsUsesOf d g r Unchecked) (sym e) refl
+    said d c a.bounds b.bounds a.state b.state (schedule_in r) xs ys j uses refl found (subst T (o.code_is ∙ code_is) told)

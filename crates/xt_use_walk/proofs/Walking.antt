@@ -13,13 +13,10 @@ use Rattle.xt_uses.specs.UseState.{UseState}
 use Rattle.xt_uses.specs.UseWalk.{UseBroken, UseHandled, UseJudged, UseJudgement, UseKnown, UseSeen, UseStanding, use_judgement, use_passed_0, use_passed_1, use_seen}
 use Rattle.xt_use_walk.specs.declared.side.Bytes.{Bytes}
 use Rattle.xt_use_walk.specs.declared.side.Side.{Side}
-use Rattle.xt_use_walk.specs.declared.walk.End.{End}
-use Rattle.xt_use_walk.specs.declared.walk.End.TheVariants.{NoRecord, Breaks, NoMemory}
 use Rattle.xt_use_walk.specs.declared.walk.FirstUse.{FirstUse}
-use Rattle.xt_use_walk.specs.declared.walk.Walk.{Walk}
 use Rattle.xt_use_walk.specs.MaskedBytes.{KnowsBytes}
 use Rattle.xt_use_walk.specs.Sides.{IsUsePast, IsUseSeen, live_in, standing_of}
-use Rattle.xt_use_walk.specs.Walks.{Advances, AreTaken, IsKnown, IsShown, IsTurned, Knows, Turns, standing_in}
+use Rattle.xt_use_walk.specs.Walks.{Advances, AreTaken, IsKnown, IsShown, IsTurned, Knows, NoRecord, Shows, Turns, Walk, WalkEnd, standing_in}
 use Rattle.xt_use_walk.proofs.Sideways.{turned_bytes}
 
 -- ---- a core past one record more
@@ -154,7 +151,7 @@ breaks_0 w new bytes b0 b1 k b h (UseBroken kind) p rest =
       ap (λ (v : Breach). v.step) p.0,
     )
 
-pub turned_0 : (code : ℕ → ℕ) (w new : Walk) (b0 b1 : Bounds) (k : UseKnown) (xs left ys : List StepRecord) (r : Result Unit End) → Knows w b0 b1 k
+pub turned_0 : (code : ℕ → ℕ) (w new : Walk) (b0 b1 : Bounds) (k : UseKnown) (xs left ys : List StepRecord) (r : Result Unit WalkEnd) → Knows w b0 b1 k
     → new.side1 ≡ w.side1 → constant_byte new.code ≡ code
     → Turns code w.side0 new.side0 new.bytes (live_in w.side1.uses) k.masks xs left r → IsTurned code b0 b1 0 k xs ys new left ys r
 turned_0 code w new b0 b1 k [] left ys (Ok u) h same code_is t = absurd t
@@ -163,16 +160,14 @@ turned_0 code w new b0 b1 k [] left ys (Err NoRecord) h same code_is t = λ cs. 
   counts0 = ap (λ (s : Side). s.carried) t ∙ carried_known w.side0 0 b0 k.first h.zero;
   counts1 = ap (λ (s : Side). s.carried) same ∙ carried_known w.side1 1 b1 k.second h.one;
 }
-turned_0 code w new b0 b1 k [] left ys (Err (Breaks first)) h same code_is t = absurd t
-turned_0 code w new b0 b1 k [] left ys (Err (NoMemory error)) h same code_is t = λ cs. tt
+turned_0 code w new b0 b1 k [] left ys (Err (Shows first)) h same code_is t = absurd t
 turned_0 code w new b0 b1 k (x ∷ xs) left ys (Ok u) h same code_is t =
     let e = seen_is code w.side0 w.side1 0 1 b0 b1 k.first k.second k.masks x h.zero h.one in
     let s = use_seen code b0 k.first (is_live b1.range k.second.state.frame) k.masks x in
     let p = passed_0 w new b0 b1 k x xs left ys u h same t.0 s (subst (λ (v : UseSeen). IsUseSeen w.side0 new.side0 new.bytes (live_in w.side1.uses) k.masks v (Ok u)) e t.1) in
     (p.0, p.1, p.2, code_is, λ cs. p.3 (λ n. use_judgement code b0 b1 cs xs ys n) ∙ ap (λ (v : List StepRecord). use_judgement code b0 b1 cs v ys p.0) (sym t.0))
 turned_0 code w new b0 b1 k (x ∷ xs) left ys (Err NoRecord) h same code_is t = absurd t
-turned_0 code w new b0 b1 k (x ∷ xs) left ys (Err (NoMemory error)) h same code_is t = λ cs. tt
-turned_0 code w new b0 b1 k (x ∷ xs) left ys (Err (Breaks first)) h same code_is t =
+turned_0 code w new b0 b1 k (x ∷ xs) left ys (Err (Shows first)) h same code_is t =
     let e = seen_is code w.side0 w.side1 0 1 b0 b1 k.first k.second k.masks x h.zero h.one in
     let s = use_seen code b0 k.first (is_live b1.range k.second.state.frame) k.masks x in
     let r : Result Unit JudgeError = Err (stopped.Breaks first.breach) in
@@ -231,7 +226,7 @@ breaks_1 w new bytes b0 b1 k b h (UseBroken kind) p rest =
       ap (λ (v : Breach). v.step) p.0,
     )
 
-pub turned_1 : (code : ℕ → ℕ) (w new : Walk) (b0 b1 : Bounds) (k : UseKnown) (ys left xs : List StepRecord) (r : Result Unit End) → Knows w b0 b1 k
+pub turned_1 : (code : ℕ → ℕ) (w new : Walk) (b0 b1 : Bounds) (k : UseKnown) (ys left xs : List StepRecord) (r : Result Unit WalkEnd) → Knows w b0 b1 k
     → new.side0 ≡ w.side0 → constant_byte new.code ≡ code
     → Turns code w.side1 new.side1 new.bytes (live_in w.side0.uses) k.masks ys left r → IsTurned code b0 b1 1 k xs ys new xs left r
 turned_1 code w new b0 b1 k [] left xs (Ok u) h same code_is t = absurd t
@@ -240,16 +235,14 @@ turned_1 code w new b0 b1 k [] left xs (Err NoRecord) h same code_is t = λ cs. 
   counts0 = ap (λ (s : Side). s.carried) same ∙ carried_known w.side0 0 b0 k.first h.zero;
   counts1 = ap (λ (s : Side). s.carried) t ∙ carried_known w.side1 1 b1 k.second h.one;
 }
-turned_1 code w new b0 b1 k [] left xs (Err (Breaks first)) h same code_is t = absurd t
-turned_1 code w new b0 b1 k [] left xs (Err (NoMemory error)) h same code_is t = λ cs. tt
+turned_1 code w new b0 b1 k [] left xs (Err (Shows first)) h same code_is t = absurd t
 turned_1 code w new b0 b1 k (y ∷ ys) left xs (Ok u) h same code_is t =
     let e = seen_is code w.side1 w.side0 1 0 b1 b0 k.second k.first k.masks y h.one h.zero in
     let s = use_seen code b1 k.second (is_live b0.range k.first.state.frame) k.masks y in
     let p = passed_1 w new b0 b1 k y ys left xs u h same t.0 s (subst (λ (v : UseSeen). IsUseSeen w.side1 new.side1 new.bytes (live_in w.side0.uses) k.masks v (Ok u)) e t.1) in
     (p.0, p.1, p.2, code_is, λ cs. p.3 (λ n. use_judgement code b0 b1 cs xs ys n) ∙ ap (λ (v : List StepRecord). use_judgement code b0 b1 cs xs v p.0) (sym t.0))
 turned_1 code w new b0 b1 k (y ∷ ys) left xs (Err NoRecord) h same code_is t = absurd t
-turned_1 code w new b0 b1 k (y ∷ ys) left xs (Err (NoMemory error)) h same code_is t = λ cs. tt
-turned_1 code w new b0 b1 k (y ∷ ys) left xs (Err (Breaks first)) h same code_is t =
+turned_1 code w new b0 b1 k (y ∷ ys) left xs (Err (Shows first)) h same code_is t =
     let e = seen_is code w.side1 w.side0 1 0 b1 b0 k.second k.first k.masks y h.one h.zero in
     let s = use_seen code b1 k.second (is_live b0.range k.first.state.frame) k.masks y in
     let r : Result Unit JudgeError = Err (stopped.Breaks first.breach) in
@@ -259,7 +252,7 @@ turned_1 code w new b0 b1 k (y ∷ ys) left xs (Err (Breaks first)) h same code_
     shown 1 code (use_judgement code b0 b1 (1 ∷ cs) xs (y ∷ ys) k) k xs (y ∷ ys) y w.side1.uses.state first one_two b.0 b.1 (b.2 ∙ h.one.core_is) (b.3 ∙ steps_known w.side1 1 b1 k.second h.one) refl t.0 t.1 (state_known w.side1 1 b1 k.second h.one)
 
 -- ---- a turn of the walk
-pub turned_zero : (w : Walk) (side : Side) (bytes : Bytes) (b0 b1 : Bounds) (k : UseKnown) (core : ℕ) (xs left ys : List StepRecord) (r : Result Unit End) → core ≡ 0 → Knows w b0 b1 k
+pub turned_zero : (w : Walk) (side : Side) (bytes : Bytes) (b0 b1 : Bounds) (k : UseKnown) (core : ℕ) (xs left ys : List StepRecord) (r : Result Unit WalkEnd) → core ≡ 0 → Knows w b0 b1 k
     → (KnowsBytes w.side0.core w.bytes (live_in w.side0.uses) (live_in w.side1.uses) k.masks → Turns (constant_byte w.code) w.side0 side bytes (live_in w.side1.uses) k.masks xs left r)
     → IsTurned (constant_byte w.code) b0 b1 core k xs ys (record { code = w.code; side0 = side; side1 = w.side1; bytes = bytes }) left ys r
 turned_zero w side bytes b0 b1 k core xs left ys r none h turns =
@@ -269,7 +262,7 @@ turned_zero w side bytes b0 b1 k core xs left ys r none h turns =
     let C : ℕ → Type 0 = λ n. IsTurned code b0 b1 n k xs ys new left ys r in
     subst C (sym none) (turned_0 code w new b0 b1 k xs left ys r h refl refl (turns (subst K (sym h.zero.core_is) h.bytes)))
 
-pub turned_one : (w : Walk) (side : Side) (bytes : Bytes) (b0 b1 : Bounds) (k : UseKnown) (core : ℕ) (xs ys left : List StepRecord) (r : Result Unit End) → core ≡ 1 → Knows w b0 b1 k
+pub turned_one : (w : Walk) (side : Side) (bytes : Bytes) (b0 b1 : Bounds) (k : UseKnown) (core : ℕ) (xs ys left : List StepRecord) (r : Result Unit WalkEnd) → core ≡ 1 → Knows w b0 b1 k
     → (KnowsBytes w.side1.core w.bytes (live_in w.side1.uses) (live_in w.side0.uses) k.masks → Turns (constant_byte w.code) w.side1 side bytes (live_in w.side0.uses) k.masks ys left r)
     → IsTurned (constant_byte w.code) b0 b1 core k xs ys (record { code = w.code; side0 = w.side0; side1 = side; bytes = bytes }) xs left r
 turned_one w side bytes b0 b1 k core xs ys left r one h turns =

@@ -1,8 +1,5 @@
 -- What the discipline of uses says of a run of an image ('profile').
 use Rattle.std.specs.Prelude.{◌≡◌, ℕ, Bool, true, false, Some, None}
-use Rattle.xt_map.specs.Regions.{is_mapped}
-use Rattle.xt_map.specs.declared.access.Access.{Access}
-use Rattle.xt_trace.specs.declared.record.StepRecord.{StepRecord}
 use Rattle.xt_frames.specs.FirstBreach.{Course, IsTurn}
 use Rattle.xt_uses.specs.declared.discipline.Discipline.{Discipline}
 use Rattle.xt_uses.specs.FirstUse.{History, IsFirstUse, IsHistory, IsVerdict}
@@ -10,10 +7,6 @@ use Rattle.xt_uses.specs.Lacks.{lacks_before}
 use Rattle.xt_use_walk.specs.declared.walk.FirstUse.{FirstUse}
 use Rattle.xt_use_walk.specs.declared.walk.Uses.{Uses}
 use Rattle.xt_use_walk.specs.declared.walk.Uses.TheVariants.{Unchecked, Whole, Broken}
-
--- the bus serves the access of a record
-abbrev pub IsServed : StepRecord → Type 0
-IsServed rec = (a : Access) → rec.access ≡ Some a → is_mapped a ≡ true
 
 -- the first breach, its record, and the registers that the record's instruction reads and of which
 -- not every bit is known

@@ -1,5 +1,5 @@
 -- Carries a proof; nothing that a reader must believe.
--- The walk over the records of both cores: what it knows is what the definition of the walk knows.
+-- A walk over the records of both cores: what it knows is what the definition of the walk knows.
 use Rattle.std.specs.Prelude.{◌≡◌, ℕ, zero, suc, ◌+◌, ◌<◌, Bool, Some, None, Result, Ok}
 use Rattle.std.specs.Prelude.{◌&&◌, nat_le, nat_lt, Err, List, [], ◌∷◌, ◌-◌, ◌||◌, if◌then◌else◌, drop, slice_get}
 use Rattle.xt_map.specs.Touching.{touches}
@@ -19,16 +19,26 @@ use Rattle.xt_uses.specs.UseWalk.{UseJudgement, UseKnown, UseStanding, opening_u
 use Rattle.xt_uses.specs.UseWalk.{use_judgement, use_seen}
 use Rattle.xt_use_walk.specs.declared.side.Bytes.{Bytes}
 use Rattle.xt_use_walk.specs.declared.side.Side.{Side}
-use Rattle.xt_use_walk.specs.declared.walk.End.{End}
-use Rattle.xt_use_walk.specs.declared.walk.End.TheVariants.{NoRecord, Breaks, NoMemory}
 use Rattle.xt_use_walk.specs.declared.walk.FirstUse.{FirstUse}
 use Rattle.xt_use_walk.specs.declared.walk.Uses.{Uses}
 use Rattle.xt_use_walk.specs.declared.walk.Uses.TheVariants.{Unchecked, Whole, Broken}
-use Rattle.xt_use_walk.specs.declared.walk.Walk.{Walk}
 use Rattle.xt_use_walk.specs.MaskedBytes.{KnowsBytes}
 use Rattle.xt_use_walk.specs.Sides.{IsUseSeen, IsUseSide, live_in, standing_of}
 
 -- ---- what the walk knows
+
+-- of the code, of both cores, and of the bytes of memory
+pub record Walk : Type 0 where
+  pub code : List Segment
+  pub side0 : Side
+  pub side1 : Side
+  pub bytes : Bytes
+
+-- how a turn ends the walk before its schedule does: the core has no record left, or its record
+-- shows this breach
+pub data WalkEnd : Type 0 where
+  NoRecord : WalkEnd
+  Shows : FirstUse → WalkEnd
 
 -- a core that the definition knows so
 pub record IsKnown (s : Side) (core : ℕ) (b : Bounds) (st : UseStanding) : Type 0 where
@@ -44,17 +54,16 @@ pub record Knows (w : Walk) (b0 b1 : Bounds) (k : UseKnown) : Type 0 where
 
 -- ---- a turn
 
--- what a core's next record comes to, about which too little memory says nothing
+-- what a core's next record comes to
 abbrev pub Turns :
     (ℕ → ℕ) → Side → Side → Bytes → (ℕ → Bool) → (ℕ → ℕ) → List StepRecord → List StepRecord
-    → Result Unit End → Type 0
-Turns code old new bytes others masks xs left (Err (NoMemory error)) = Unit {0}
+    → Result Unit WalkEnd → Type 0
 Turns code old new bytes others masks [] left (Err NoRecord) = new ≡ old
 Turns code old new bytes others masks (x ∷ xs) left (Ok u) =
     (left ≡ xs)
     × IsUseSeen old new bytes others masks
     (use_seen code old.uses.bounds (standing_of old) others masks x) (Ok u)
-Turns code old new bytes others masks (x ∷ xs) left (Err (Breaks first)) =
+Turns code old new bytes others masks (x ∷ xs) left (Err (Shows first)) =
     (first.rec ≡ x)
     × (first.lacks ≡ lacks_before code x (standing_of old).state)
     × IsUseSeen old new bytes others masks
@@ -104,16 +113,15 @@ pub record IsShown
 
 -- how the walk ends before the schedule does
 abbrev pub IsEnded :
-    (ℕ → ℕ) → UseJudgement → UseKnown → List StepRecord → List StepRecord → Walk → End → Type 0
+    (ℕ → ℕ) → UseJudgement → UseKnown → List StepRecord → List StepRecord → Walk → WalkEnd → Type 0
 IsEnded code j k xs ys w NoRecord = IsWhole j w.side0.carried w.side1.carried
-IsEnded code j k xs ys w (Breaks first) = IsShown code j k xs ys first
-IsEnded code j k xs ys w (NoMemory error) = Unit {0}
+IsEnded code j k xs ys w (Shows first) = IsShown code j k xs ys first
 
 -- in the words of the definition: `xs` and `ys` are the records that were left before, and
 -- `xs'` and `ys'` those after it
 abbrev pub IsTurned :
     (ℕ → ℕ) → Bounds → Bounds → ℕ → UseKnown → List StepRecord → List StepRecord → Walk
-    → List StepRecord → List StepRecord → Result Unit End → Type 0
+    → List StepRecord → List StepRecord → Result Unit WalkEnd → Type 0
 IsTurned code b0 b1 core k xs ys new xs' ys' (Ok u) =
     (n : UseKnown) × Knows new b0 b1 n × Advances 1 k n xs ys xs' ys'
     × (constant_byte new.code ≡ code)
@@ -157,13 +165,6 @@ pub record Reaches
   pub code_is : constant_byte w.code ≡ code
   pub judged : use_judgement code b0 b1 schedule xs ys k
       ≡ use_judgement code b0 b1 (drop turns schedule) xs' ys' known
-
--- the turns of a schedule are walked, or the walk ended before
-abbrev pub IsWalked :
-    (ℕ → ℕ) → UseJudgement → UseKnown → List StepRecord → List StepRecord → Walk
-    → Result Unit End → Type 0
-IsWalked code j k xs ys w (Ok u) = IsWhole j w.side0.carried w.side1.carried
-IsWalked code j k xs ys w (Err end) = IsEnded code j k xs ys w end
 
 -- what is said of a walk
 abbrev pub IsTold :

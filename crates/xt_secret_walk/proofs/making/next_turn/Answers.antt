@@ -3,40 +3,41 @@ use Rattle.xt_map.specs.declared.access.Access.{Access}
 use Rattle.xt_map.specs.Memory.{constant_byte}
 use Rattle.xt_trace.specs.Traces.{replies_past, reply_for}
 use Rattle.xt_exec.specs.States.{file_state}
-use Rattle.xt_exec.specs.Turn.{demand}
-use Rattle.xt_core.specs.declared.begun.StartedTurn.{StartedTurn}
-use Rattle.xt_core.specs.Turns.{IsBegun}
+use Rattle.xt_exec.specs.Halves.{IsPlan}
+use Rattle.xt_exec.specs.Turn.{demand, planned_turn}
+use Rattle.xt_exec.specs.declared.plans.Plan.{Plan}
 use Rattle.xt_core.proofs.Cursors.{half_step}
+use Rattle.xt_core.proofs.Turning.{half_turn}
 use Rattle.xt_secret_walk.proofs.making.next_turn.Goals as goal
 
-pub returns-in-Local-clause-turn : goal.returns-in-Local-clause-turn
-returns-in-Local-clause-turn c =
+pub returns-in-Done-clause-turn : goal.returns-in-Done-clause-turn
+returns-in-Done-clause-turn c =
     let code = constant_byte c.args.code.now in
     let s = file_state c.args.regs.now in
-    let B : StartedTurn → Type 0 = λ x. IsBegun x code s (file_state c.started.new.r) in
-    let local = subst B c.in-Local.is (c.started.ensures code s c.head_of-head.ensures.value c.start-plan.ensures.plan) in
+    let P : Plan → Type 0 = λ p. IsPlan p s (file_state c.start-plan.new.regs) (planned_turn code s) in
+    let local = c.local_turn.ensures code s c.head_of-head.ensures.value (subst P c.in-Done.is c.start-plan.ensures.plan) in
     local.turn (reply_for (demand code s) c.args.replies.now)
 
-pub returns-in-Local-clause-rest : goal.returns-in-Local-clause-rest
-returns-in-Local-clause-rest c =
+pub returns-in-Done-clause-rest : goal.returns-in-Done-clause-rest
+returns-in-Done-clause-rest c =
     let code = constant_byte c.args.code.now in
     let s = file_state c.args.regs.now in
-    let B : StartedTurn → Type 0 = λ x. IsBegun x code s (file_state c.started.new.r) in
-    let local = subst B c.in-Local.is (c.started.ensures code s c.head_of-head.ensures.value c.start-plan.ensures.plan) in
+    let P : Plan → Type 0 = λ p. IsPlan p s (file_state c.start-plan.new.regs) (planned_turn code s) in
+    let local = c.local_turn.ensures code s c.head_of-head.ensures.value (subst P c.in-Done.is c.start-plan.ensures.plan) in
     sym (ap (λ (d : Option Access). replies_past d c.args.replies.now) local.asks_nothing)
 
-pub returns-in-Asks-clause-turn : goal.returns-in-Asks-clause-turn
-returns-in-Asks-clause-turn c =
+pub returns-in-Bus-clause-turn : goal.returns-in-Bus-clause-turn
+returns-in-Bus-clause-turn c =
     let code = constant_byte c.args.code.now in
     let s = file_state c.args.regs.now in
-    let t = file_state c.started.new.r in
-    let B : StartedTurn → Type 0 = λ x. IsBegun x code s t in
-    half_step code s t c.in-Asks.pending c.next-reply.result c.args.replies.now _ (subst B c.in-Asks.is (c.started.ensures code s c.head_of-head.ensures.value c.start-plan.ensures.plan)) (c.end.ensures code) (c.next-reply.ensures.reply c.in-Asks.pending.access)
+    let t = file_state c.start-plan.new.regs in
+    let P : Plan → Type 0 = λ p. IsPlan p s (file_state c.start-plan.new.regs) (planned_turn code s) in
+    half_step code s t c.in-Bus.pending c.next-reply.result c.args.replies.now _ (half_turn code s _ c.in-Bus.pending (file_state c.start-plan.new.regs) (subst P c.in-Bus.is c.start-plan.ensures.plan)) (c.end.ensures code) (c.next-reply.ensures.reply c.in-Bus.pending.access)
 
-pub returns-in-Asks-clause-rest : goal.returns-in-Asks-clause-rest
-returns-in-Asks-clause-rest c =
+pub returns-in-Bus-clause-rest : goal.returns-in-Bus-clause-rest
+returns-in-Bus-clause-rest c =
     let code = constant_byte c.args.code.now in
     let s = file_state c.args.regs.now in
-    let B : StartedTurn → Type 0 = λ x. IsBegun x code s (file_state c.started.new.r) in
-    let half = subst B c.in-Asks.is (c.started.ensures code s c.head_of-head.ensures.value c.start-plan.ensures.plan) in
-    c.next-reply.ensures.rest c.in-Asks.pending.access ∙ ap (λ (d : Option Access). replies_past d c.args.replies.now) (sym half.asks)
+    let P : Plan → Type 0 = λ p. IsPlan p s (file_state c.start-plan.new.regs) (planned_turn code s) in
+    let half = half_turn code s _ c.in-Bus.pending (file_state c.start-plan.new.regs) (subst P c.in-Bus.is c.start-plan.ensures.plan) in
+    c.next-reply.ensures.rest c.in-Bus.pending.access ∙ ap (λ (d : Option Access). replies_past d c.args.replies.now) (sym half.asks)

@@ -55,6 +55,6 @@ returns-in-Nested-clause-seen c = λ others masks known.
     let code = constant_byte c.args.code.now in
     let S : Result Unit End → Type 0 = λ r. IsSawn code old.side new c.see.new.bytes others masks c.args.rec c.see.new.first r in
     let saw = subst S c.in_ok-see.was (c.see.ensures.seen others masks known) in
-    let core : UseShadow = record old { side = new; plain = false } in
+    let core : UseShadow = record old { side = new; may_step = false } in
     seen_ok old new c.see.new.bytes others masks code c.args.rec c.in_ok-see.field-0 c.requires.inside c.requires.level saw core c.see.new.first (shown_whole core c.requires.level)
     (core_nested old new c.see.new.bytes others masks code c.args.rec c.in_ok-see.field-0 c.requires.inside c.requires.level saw)

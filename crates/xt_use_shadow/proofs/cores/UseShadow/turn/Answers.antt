@@ -1,19 +1,18 @@
 use Rattle.std.proofs.Common.{◌≡◌, Result, Err, List, refl, sym, ◌∙◌, subst}
+use Rattle.std.proofs.lemmas.Bool.{true≢false}
 use Rattle.xt_map.specs.declared.segment.Segment.{Segment}
 use Rattle.xt_map.specs.Memory.{constant_byte}
 use Rattle.xt_trace.specs.declared.record.StepRecord.{StepRecord}
-use Rattle.xt_use_walk.specs.declared.walk.End as walk_end
-use Rattle.xt_use_walk.specs.declared.walk.End.TheVariants as ended
-use Rattle.xt_use_walk.specs.Walks.{Turns}
+use Rattle.xt_use_walk.specs.Walks.{NoRecord, Turns, WalkEnd}
 use Rattle.xt_use_shadow.specs.Shadows.{IsSeenBy, records_left, shown}
-use Rattle.xt_use_shadow.proofs.Turning.{judged_turn, none_left, passed_by, step_room, whole_core, whole_knows, whole_room}
+use Rattle.xt_use_shadow.proofs.Turning.{judged_turn, none_left, passed_by, step_room, stepped, whole_core, whole_knows, whole_room}
 use Rattle.xt_use_shadow.proofs.cores.UseShadow.turn.Goals as goal
 
 pub returns-then-self-eq0-clause-turned : goal.returns-then-self-eq0-clause-turned
 returns-then-self-eq0-clause-turned c others masks known =
     let code = constant_byte c.args.lookups.now in
     let w = c.args.self.now in
-    let out : Result Unit walk_end.End = Err ended.NoRecord in
+    let out : Result Unit WalkEnd = Err NoRecord in
     let T : List StepRecord → Type 0 = λ xs. Turns code (shown w) (shown w) c.args.bytes.now others masks xs (records_left code w) out in
     subst T (sym (none_left code w c.if-self-eq0.true)) refl
 
@@ -59,3 +58,10 @@ returns-else-self-clause-turned c others masks known =
     let S : List Segment → Type 0 = λ x. IsSeenBy (constant_byte x) v c.judge.new.self c.judge.new.bytes others masks rec c.judge.new.first c.judge.result in
     judged_turn code w v rec m c.requires.inside made c.if-self.false c.judge.new.self c.judge.new.bytes others masks c.judge.new.first (c.judge.ensures.kept code) c.judge.result
     (subst S same (c.judge.ensures.seen others masks (whole_knows code w v rec m c.requires.inside made c.if-self.false others masks known)))
+
+pub returns-then-self-clause-never : goal.returns-then-self-clause-never
+returns-then-self-clause-never c = λ e.
+    absurd (true≢false (sym (stepped (constant_byte c.args.lookups.now) c.args.self.now c.make-rec.new.self c.make-rec.result c.args.bytes.now c.requires.inside c.make-rec.ensures.made c.if-self.true) ∙ e))
+
+pub returns-else-self-clause-never : goal.returns-else-self-clause-never
+returns-else-self-clause-never c = λ e. c.judge.ensures.never (c.make-rec.ensures.made.may_step ∙ e)

@@ -46,7 +46,7 @@ returns-in_err-turn c b0 b1 k h =
     let same : c.from_residual.result ≡ Err end = search rules in
     subst (λ (x : Result Unit End). IsFound code (judged_from code b0 b1 cs k c.args.self.now) k c.args.self.now c.turn.new.self x) (sym same)
     (end_found code b0 b1 k cs c.args.self.now c.loop-core.self n r c.turn.new.self c.in-Some.core c.in-Some.core at.0 at.1 c.turn.result end c.in_err-turn.was
-    (c.turn.ensures b0 b1 r.reaches.known (both code b0 b1 k cs c.args.self.now c.loop-core.self n r)))
+    (c.turn.ensures.turned b0 b1 r.reaches.known (both code b0 b1 k cs c.args.self.now c.loop-core.self n r)))
 
 pub loop-core-preserved : goal.loop-core-preserved
 loop-core-preserved c b0 b1 k h =
@@ -56,8 +56,8 @@ loop-core-preserved c b0 b1 k h =
     let n = length c.loop-core.yielded in
     let at = YieldsList-turn (YieldsList-from_first (λ x. x) turns_left cs (search rules)) c.loop-core.yielded _ c.loop-core.yielded_by _ c.next.new.self c.in-Some.core c.in-Some.is c.next.ensures.steps in
     let r = c.loop-core.invariant b0 b1 k h in
-    rw length_push (more_reached code b0 b1 k cs c.args.self.now c.loop-core.self n r c.turn.new.self c.in-Some.core c.in-Some.core at.0 at.1 c.turn.result c.in_ok-turn.field-0 c.in_ok-turn.was
-    (c.turn.ensures b0 b1 r.reaches.known (both code b0 b1 k cs c.args.self.now c.loop-core.self n r)))
+    rw length_push (more_reached code b0 b1 k cs c.args.self.now c.loop-core.self n r c.turn.new.self c.in-Some.core c.in-Some.core at.0 at.1 c.turn.result c.in_ok-turn.field-0 c.in_ok-turn.was c.turn.ensures.never
+    (c.turn.ensures.turned b0 b1 r.reaches.known (both code b0 b1 k cs c.args.self.now c.loop-core.self n r)))
 
 pub returns : goal.returns
 returns c b0 b1 k h =

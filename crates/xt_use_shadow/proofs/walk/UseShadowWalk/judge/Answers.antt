@@ -1,4 +1,4 @@
-use Rattle.std.proofs.Common.{◌≡◌, Option, Some, None, Err, subst, sym}
+use Rattle.std.proofs.Common.{Option, Err, subst, sym}
 use Rattle.xt_map.specs.Memory.{constant_byte}
 use Rattle.xt_discipline.specs.Schedules.{schedule_in}
 use Rattle.xt_use_walk.specs.declared.walk.FirstUse.{FirstUse}
@@ -39,3 +39,11 @@ returns-in-Err-NoTurn c = λ b0 b1 k h.
     let E : End → Type 0 = λ e. IsFound code j k old c.follow.new.self (Err e) in
     let T : Uses → Type 0 = λ u. IsTold code j k (records_left code old.side0) (records_left code old.side1) u in
     subst T (sym c.whole-in-Err-NoTurn.ensures) (subst E c.in-Err-NoTurn.field-0-is (c.in-Err-NoTurn.ensures b0 b1 k h))
+
+pub returns-in-Err-Lost : goal.returns-in-Err-Lost
+returns-in-Err-Lost c = λ b0 b1 k h.
+    let old = c.args.self.now in
+    let code = constant_byte old.code in
+    let j = judged_from code b0 b1 (schedule_in c.args.run.now) k old in
+    let E : End → Type 0 = λ e. IsFound code j k old c.follow.new.self (Err e) in
+    subst E c.in-Err-Lost.field-0-is (c.in-Err-Lost.ensures b0 b1 k h)

@@ -34,16 +34,22 @@ turn-requires-else-core-eq0 c =
       known = (live_in (shown w.side0).uses, q.2.masks, knows_1 w q.0 q.1 q.2 q.3);
     }
 
-pub returns-then-core-eq0 : goal.returns-then-core-eq0
-returns-then-core-eq0 c b0 b1 k h =
+pub returns-then-core-eq0-clause-turned : goal.returns-then-core-eq0-clause-turned
+returns-then-core-eq0-clause-turned c b0 b1 k h =
     let w = c.args.self.now in
     let t = c.turn in
     let W : List Segment → Type 0 = λ x. IsWalked (constant_byte w.code) b0 b1 c.args.core k w (record { code = x; side0 = t.new.self; side1 = w.side1; bytes = t.new.bytes; first = t.new.first }) t.result in
     subst W (sym t.ensures.code) (walked_zero w t.new.self t.new.bytes b0 b1 k c.args.core h t.new.first t.result c.if-core-eq0.true t.ensures.turned)
 
-pub returns-else-core-eq0 : goal.returns-else-core-eq0
-returns-else-core-eq0 c b0 b1 k h =
+pub returns-else-core-eq0-clause-turned : goal.returns-else-core-eq0-clause-turned
+returns-else-core-eq0-clause-turned c b0 b1 k h =
     let w = c.args.self.now in
     let t = c.turn-else-core-eq0 in
     let W : List Segment → Type 0 = λ x. IsWalked (constant_byte w.code) b0 b1 c.args.core k w (record { code = x; side0 = w.side0; side1 = t.new.self; bytes = t.new.bytes; first = t.new.first }) t.result in
     subst W (sym t.ensures.code) (walked_one w t.new.self t.new.bytes b0 b1 k c.args.core h t.new.first t.result (one_of c.args.core c.requires.core c.if-core-eq0.false) t.ensures.turned)
+
+pub returns-then-core-eq0-clause-never : goal.returns-then-core-eq0-clause-never
+returns-then-core-eq0-clause-never c = λ n. record { zero = c.turn.ensures.never n.zero; one = n.one }
+
+pub returns-else-core-eq0-clause-never : goal.returns-else-core-eq0-clause-never
+returns-else-core-eq0-clause-never c = λ n. record { zero = n.zero; one = c.turn-else-core-eq0.ensures.never n.one }

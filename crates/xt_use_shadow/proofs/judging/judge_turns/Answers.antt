@@ -1,14 +1,10 @@
-use Rattle.std.proofs.Common.{◌≡◌, ◌≤◌, Option, length, sym, ◌∙◌, subst, arith, true}
+use Rattle.std.proofs.Common.{◌≤◌, length, arith}
 use Rattle.xt_core.proofs.Scheduled.{has_schedule}
-use Rattle.xt_map.specs.Memory.{constant_byte}
 use Rattle.xt_frames.specs.Walked.{opening_walked}
 use Rattle.xt_discipline.specs.Schedules.{schedule_in}
-use Rattle.xt_discipline.specs.Verdicts.{are_yes}
 use Rattle.xt_discipline.proofs.Lengths.{schedule_short}
-use Rattle.xt_use_walk.specs.declared.walk.Uses.{Uses}
-use Rattle.xt_use_shadow.specs.Shadows.{IsFoundIn, judged_from}
-use Rattle.xt_use_shadow.proofs.Walking.{opening_known, uses_found}
-use Rattle.xt_use_shadow.proofs.judging.judge_uses_of.Goals as goal
+use Rattle.xt_use_shadow.proofs.Walking.{opening_known, turns_found}
+use Rattle.xt_use_shadow.proofs.judging.judge_turns.Goals as goal
 
 pub judge-requires-clause-schedule : goal.judge-requires-clause-schedule
 judge-requires-clause-schedule c = has_schedule c.args.image.now c.args.run.now c.requires.run
@@ -32,17 +28,12 @@ judge-requires-clause-room c =
     let short : length (schedule_in c.args.run.now) ≤ 8000000 = schedule_short c.args.run.now (has_schedule c.args.image.now c.args.run.now c.requires.run) in
     omega (arith, s0, s1, short)
 
-pub returns-in-Some : goal.returns-in-Some
-returns-in-Some c =
+pub returns : goal.returns
+returns c =
     let image = c.args.image.now in
     let run = c.args.run.now in
-    let w = c.in_ok-walk.walk in
     let a = opening_walked 0 image.entry run.options in
     let b = opening_walked 1 run.options.entry1 run.options in
-    let k = opening_known c.args.discipline image run in
-    let good : are_yes c.args.handlers.now ≡ true = sym c.are_yes.ensures ∙ c.if-not-are_yes.false in
     let o = c.in_ok-walk.ensures in
-    let code = constant_byte w.code in
-    let F : Option Uses → Type 0 = λ x. IsFoundIn code (judged_from code a.bounds b.bounds (schedule_in run) k w) k w x in
-    uses_found c.args.discipline image run w (are_yes c.args.handlers.now) c.in-Some.uses good o
-    (subst F c.in-Some.is (c.in_ok-judged.ensures a.bounds b.bounds k (record { cores = o.cores; knows = o.opened.knows })))
+    turns_found c.args.discipline image run c.args.may_step c.in_ok-walk.walk c.judge.result o
+    (c.judge.ensures a.bounds b.bounds (opening_known c.args.discipline image run) (record { cores = o.cores; knows = o.opened.knows }))
