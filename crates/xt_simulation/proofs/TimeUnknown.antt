@@ -57,7 +57,7 @@ use Rattle.xt_simulation.specs.SecretLaws.{FitsAccess, executed}
 use Rattle.xt_simulation.proofs.Law.{turns_with_known_uses_agree}
 use Rattle.xt_simulation.proofs.SecretSpecials.{differs, unequal}
 use Rattle.xt_timeless.specs.Time.{executes, fetches_time, is_of_time, reads_time, timer_bits, uses_time, without_time}
-use Rattle.xt_timeless.specs.Alike.{AreAlike}
+use Rattle.xt_timeless.specs.Alike.{AreAlike, may_differ}
 use Rattle.xt_simulation.specs.TimeUnknown.{TimeIsUnknown, all_but_time, timeless_mask}
 use Rattle.xt_timeless.proofs.Lists.{alike_from, same_cleared}
 
@@ -112,11 +112,29 @@ masks = record {
 
 -- ---- equal but for time
 
-agree_special : (xs ys : List ℕ) → AreAlike xs ys → (n : ℕ) → AgreeIn (timeless_mask n) (slice_index xs n) (slice_index ys n)
+-- the registers of time are those that may differ
+and_true : (b : Bool) → (b && true) ≡ false → b ≡ false
+and_true true e = e
+and_true false e = e
+
+may_not_differ : (n : ℕ) → is_of_time n ≡ false → may_differ true n ≡ false
+may_not_differ n h =
+    let p = or_parts (eqb n 234) (eqb n 226 || (eqb n 240 || (eqb n 241 || eqb n 242))) h in
+    let q = or_parts (eqb n 226) (eqb n 240 || (eqb n 241 || eqb n 242)) p.1 in
+    λ i. q.0 i || ((p.0 i || q.1 i) && true)
+
+is_not_of_time : (n : ℕ) → may_differ true n ≡ false → is_of_time n ≡ false
+is_not_of_time n h =
+    let clocks = eqb n 234 || (eqb n 240 || (eqb n 241 || eqb n 242)) in
+    let p = or_parts (eqb n 226) (clocks && true) h in
+    let q = or_parts (eqb n 234) (eqb n 240 || (eqb n 241 || eqb n 242)) (and_true clocks p.1) in
+    λ i. q.0 i || (p.0 i || q.1 i)
+
+agree_special : (xs ys : List ℕ) → AreAlike true xs ys → (n : ℕ) → AgreeIn (timeless_mask n) (slice_index xs n) (slice_index ys n)
 unfolding without_bits
 agree_special xs ys a =
     by_register (λ n. AgreeIn (timeless_mask n) (slice_index xs n) (slice_index ys n)) a.interrupt (agree_none _ _) (agree_none _ _) (agree_none _ _) (agree_none _ _)
-    (λ n other. ap (masked (timeless_mask n)) (a.same n other))
+    (λ n other. ap (masked (timeless_mask n)) (a.same n (may_not_differ n other)))
 
 states_agree : (s t : State) → without_time s ≡ without_time t → StatesAgree all_but_time s t
 states_agree s t e = record {
@@ -138,7 +156,7 @@ unfolding without_bits
 equal_again s t f g h =
     let regs = same_words s.regs t.regs (f.count ∙ sym g.count) f.words g.words h.regs in
     let pointer = all_agree_word s.control.threadptr t.control.threadptr f.control.threadptr g.control.threadptr h.threadptr in
-    let special = same_cleared s.control.special t.control.special (record { long = f.control.count ∙ sym g.control.count; same = same_at; interrupt = h.special 226 }) in
+    let special = same_cleared s.control.special t.control.special (record { long = f.control.count ∙ sym g.control.count; same = λ n h. same_at n (is_not_of_time n h); interrupt = h.special 226 }) in
     λ i. record {
       regs = regs i;
       base = h.base i;

@@ -6,3 +6,4 @@ pub mod Turning
 pub mod Going
 pub mod Executing
 pub mod Shaped
+pub mod Waiting

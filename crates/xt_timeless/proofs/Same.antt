@@ -1,6 +1,6 @@
 -- What an instruction does in states that are equal but for time.
-use Rattle.std.proofs.Common.{◌≡◌, ℕ, ◌+◌, ◌<◌, ◌≤◌, ◌⊎◌, Bool, true, false, cond, eqb, ◌||◌, Option, Some, None, List, slice_index, refl, sym, ap, inl, inr, arith}
-use Rattle.std.proofs.lemmas.Bool.{eqb-true, false_from_ne_true}
+use Rattle.std.proofs.Common.{◌≡◌, ℕ, ◌+◌, ◌<◌, ◌≤◌, ◌⊎◌, Bool, true, false, cond, eqb, ◌&&◌, ◌||◌, Option, Some, None, List, slice_index, refl, sym, ap, inl, inr, arith}
+use Rattle.std.proofs.lemmas.Bool.{eqb-true, false_from_ne_true, or_parts}
 use Rattle.xt_isa.specs.declared.Insn.{Insn}
 use Rattle.xt_isa.specs.declared.Insn.TheVariants as insn
 use Rattle.xt_isa.specs.declared.three.Three.{Three}
@@ -26,7 +26,7 @@ use Rattle.xt_rows.specs.Operands.{changes_interrupt, memory_special_reads, read
 use Rattle.xt_rows.specs.Outcomes.{outcome, outcome_at, system_outcome, value_of}
 use Rattle.xt_rows.proofs.Forms.{at_most}
 use Rattle.xt_timeless.specs.Time.{is_of_time, reads_time, timer_bits}
-use Rattle.xt_timeless.specs.Alike.{AreAlike}
+use Rattle.xt_timeless.specs.Alike.{AreAlike, may_differ}
 use Rattle.xt_timeless.proofs.Keeping.{with_special, written_alike}
 
 -- a register with a lower number than INTERRUPT is none of time
@@ -36,9 +36,16 @@ low k h = λ i. no 234 (omega arith) i || (no 226 h i || (no 240 (omega arith) i
     no : (n : ℕ) → k < n → eqb k n ≡ false
     no n less = false_from_ne_true (eqb k n) (λ t. let same = eqb-true k n t in absurd (omega (arith, same)))
 
+-- what is not of time does not differ
+not_time : (clocks : Bool) (k : ℕ) → is_of_time k ≡ false → may_differ clocks k ≡ false
+not_time clocks k h =
+    let p = or_parts (eqb k 234) (eqb k 226 || (eqb k 240 || (eqb k 241 || eqb k 242))) h in
+    let q = or_parts (eqb k 226) (eqb k 240 || (eqb k 241 || eqb k 242)) p.1 in
+    λ i. q.0 i || ((p.0 i || q.1 i) && clocks)
+
 -- ---- the special registers that a row reads
 
-module _ (xs ys : List ℕ) (a : AreAlike xs ys) where
+module _ {clocks : Bool} (xs ys : List ℕ) (a : AreAlike clocks xs ys) where
   abbrev SameReads : Option ℕ × Option ℕ → Type 0
   SameReads n = (value_of (slice_index xs) n.0 ≡ value_of (slice_index ys) n.0) × (value_of (slice_index xs) n.1 ≡ value_of (slice_index ys) n.1)
 
@@ -64,8 +71,8 @@ module _ (xs ys : List ℕ) (a : AreAlike xs ys) where
   system_same (system.ExceptionReturn ExceptionReturnName.Rfwu) ok h w x = (a.same 177 refl, refl)
   system_same (system.Rfi level) ok h w x =
       let small : natural level ≤ 7 = at_most 2 7 level ok in
-      (a.same (176 + natural level) (low (176 + natural level) (omega arith)), a.same (192 + natural level) (low (192 + natural level) (omega arith)))
-  system_same (system.Special SpecialName.Rsr t n) ok h w x = (a.same n h, refl)
+      (a.same (176 + natural level) (not_time clocks (176 + natural level) (low (176 + natural level) (omega arith))), a.same (192 + natural level) (not_time clocks (192 + natural level) (low (192 + natural level) (omega arith))))
+  system_same (system.Special SpecialName.Rsr t n) ok h w x = (a.same n (not_time clocks n h), refl)
   system_same (system.Special SpecialName.Wsr t n) ok h w x = absurd (w t n refl)
   system_same (system.Special SpecialName.Xsr t n) ok h w x = absurd (x t n refl)
   system_same _ ok h w x = (refl, refl)
@@ -81,15 +88,15 @@ module _ (xs ys : List ℕ) (a : AreAlike xs ys) where
 -- ---- outcomes
 
 -- they are the same, but for the special registers that are written, which differ by time
-abbrev pub AreAlikeOutcomes : List ℕ → List ℕ → Outcome → Outcome → Type 0
-AreAlikeOutcomes xs ys o p =
-    (o ≡ p) ⊎ ((e : Effect) × (sets : SpecialWrites) × (o ≡ Does e) × (p ≡ Does (record e { sets = sets })) × AreAlike (with_sets e.sets xs) (with_sets sets ys))
+abbrev pub AreAlikeOutcomes : Bool → List ℕ → List ℕ → Outcome → Outcome → Type 0
+AreAlikeOutcomes clocks xs ys o p =
+    (o ≡ p) ⊎ ((e : Effect) × (sets : SpecialWrites) × (o ≡ Does e) × (p ≡ Does (record e { sets = sets })) × AreAlike clocks (with_sets e.sets xs) (with_sets sets ys))
 
-module _ (code : ℕ → ℕ) (registers : ℕ → ℕ) (c : Control) (ys : List ℕ) (a : AreAlike c.special ys) where
+module _ {clocks : Bool} (code : ℕ → ℕ) (registers : ℕ → ℕ) (c : Control) (ys : List ℕ) (a : AreAlike clocks c.special ys) where
   as_read : (i : Insn) → SameReads c.special ys a (special_reads i) → outcome_at code i registers c ≡ outcome_at code i registers (with_special c ys)
   as_read i same = λ k. outcome code i c.pc (value_of registers (reads i).0) (value_of registers (reads i).1) (same.0 k) (same.1 k) c.ps c.threadptr
 
-  wsr_alike : (t n : ℕ) → AreAlikeOutcomes c.special ys (outcome_at code (insn.System (system.Special SpecialName.Wsr t n)) registers c) (outcome_at code (insn.System (system.Special SpecialName.Wsr t n)) registers (with_special c ys))
+  wsr_alike : (t n : ℕ) → AreAlikeOutcomes clocks c.special ys (outcome_at code (insn.System (system.Special SpecialName.Wsr t n)) registers c) (outcome_at code (insn.System (system.Special SpecialName.Wsr t n)) registers (with_special c ys))
   unfolding outcome special_reads system_outcome
   wsr_alike t n = by_register (window_register n)
     where
@@ -105,11 +112,11 @@ module _ (code : ℕ → ℕ) (registers : ℕ → ℕ) (c : Control) (ys : List
       e : Effect
       e = no_change c.ps c.threadptr
 
-      by_register : (r : Option WindowRegister) → AreAlikeOutcomes c.special ys (writes_special r n x (v c.special) e) (writes_special r n x (v ys) e)
+      by_register : (r : Option WindowRegister) → AreAlikeOutcomes clocks c.special ys (writes_special r n x (v c.special) e) (writes_special r n x (v ys) e)
       by_register None = inr (record e { sets = written_by n x (v c.special); ps = ps_written n x e.ps }, written_by n x (v ys), refl, refl, written_alike n x (v c.special) (v ys) c.special ys (interrupt_same c.special ys a n) a)
       by_register (Some w) = inl refl
 
-  xsr_alike : (t n : ℕ) → is_of_time n ≡ false → AreAlikeOutcomes c.special ys (outcome_at code (insn.System (system.Special SpecialName.Xsr t n)) registers c) (outcome_at code (insn.System (system.Special SpecialName.Xsr t n)) registers (with_special c ys))
+  xsr_alike : (t n : ℕ) → is_of_time n ≡ false → AreAlikeOutcomes clocks c.special ys (outcome_at code (insn.System (system.Special SpecialName.Xsr t n)) registers c) (outcome_at code (insn.System (system.Special SpecialName.Xsr t n)) registers (with_special c ys))
   unfolding outcome special_reads system_outcome
   xsr_alike t n h = by_register (window_register n)
     where
@@ -125,28 +132,28 @@ module _ (code : ℕ → ℕ) (registers : ℕ → ℕ) (c : Control) (ys : List
       e : Effect
       e = no_change c.ps c.threadptr
 
-      by_register : (r : Option WindowRegister) → AreAlikeOutcomes c.special ys (exchanges_special r t n x (slice_index c.special n) (v c.special) e) (exchanges_special r t n x (slice_index ys n) (v ys) e)
+      by_register : (r : Option WindowRegister) → AreAlikeOutcomes clocks c.special ys (exchanges_special r t n x (slice_index c.special n) (v c.special) e) (exchanges_special r t n x (slice_index ys n) (v ys) e)
       by_register None =
           inr (
             record e { write = write_to t (value_read n (slice_index c.special n) e.ps); sets = written_by n x (v c.special); ps = ps_written n x e.ps },
             written_by n x (v ys),
             refl,
-            ap (λ (u : ℕ). exchanges_special None t n x u (v ys) e) (sym (a.same n h)),
+            ap (λ (u : ℕ). exchanges_special None t n x u (v ys) e) (sym (a.same n (not_time clocks n h))),
             written_alike n x (v c.special) (v ys) c.special ys (interrupt_same c.special ys a n) a,
           )
       by_register (Some w) = inl refl
 
-  other_alike : (i : Insn) → SameReads c.special ys a (special_reads i) → AreAlikeOutcomes c.special ys (outcome_at code i registers c) (outcome_at code i registers (with_special c ys))
+  other_alike : (i : Insn) → SameReads c.special ys a (special_reads i) → AreAlikeOutcomes clocks c.special ys (outcome_at code i registers c) (outcome_at code i registers (with_special c ys))
   other_alike i same = inl (as_read i same)
 
   system_alike : (i : System) → in_range (insn.System i) ≡ true → reads_time (insn.System i) ≡ false
-      → AreAlikeOutcomes c.special ys (outcome_at code (insn.System i) registers c) (outcome_at code (insn.System i) registers (with_special c ys))
+      → AreAlikeOutcomes clocks c.special ys (outcome_at code (insn.System i) registers c) (outcome_at code (insn.System i) registers (with_special c ys))
   unfolding special_reads
   system_alike (system.Special SpecialName.Wsr t n) ok h = wsr_alike t n
   system_alike (system.Special SpecialName.Xsr t n) ok h = xsr_alike t n h
   system_alike (system.ExceptionReturn name) ok h = other_alike (insn.System (system.ExceptionReturn name)) (system_same c.special ys a (system.ExceptionReturn name) ok h (λ t n e. absurd cc) (λ t n e. absurd cc))
   system_alike (system.Rfi level) ok h = other_alike (insn.System (system.Rfi level)) (system_same c.special ys a (system.Rfi level) ok h (λ t n e. absurd cc) (λ t n e. absurd cc))
-  system_alike (system.Special SpecialName.Rsr t n) ok h = other_alike (insn.System (system.Special SpecialName.Rsr t n)) (a.same n h, refl)
+  system_alike (system.Special SpecialName.Rsr t n) ok h = other_alike (insn.System (system.Special SpecialName.Rsr t n)) (a.same n (not_time clocks n h), refl)
   system_alike (system.Sync name) ok h = other_alike (insn.System (system.Sync name)) (refl, refl)
   system_alike (system.Wait name) ok h = other_alike (insn.System (system.Wait name)) (refl, refl)
   system_alike (system.Trap name x y) ok h = other_alike (insn.System (system.Trap name x y)) (refl, refl)
@@ -154,7 +161,7 @@ module _ (code : ℕ → ℕ) (registers : ℕ → ℕ) (c : Control) (ys : List
   system_alike (system.Rotw n) ok h = other_alike (insn.System (system.Rotw n)) (refl, refl)
   system_alike (system.User name r n) ok h = other_alike (insn.System (system.User name r n)) (refl, refl)
 
-  pub outcomes_alike : (i : Insn) → in_range i ≡ true → reads_time i ≡ false → AreAlikeOutcomes c.special ys (outcome_at code i registers c) (outcome_at code i registers (with_special c ys))
+  pub outcomes_alike : (i : Insn) → in_range i ≡ true → reads_time i ≡ false → AreAlikeOutcomes clocks c.special ys (outcome_at code i registers c) (outcome_at code i registers (with_special c ys))
   unfolding special_reads
   outcomes_alike (insn.Three i) ok h = other_alike (insn.Three i) (three_same c.special ys a i)
   outcomes_alike (insn.Shift i) ok h = other_alike (insn.Shift i) (shift_same c.special ys a i)

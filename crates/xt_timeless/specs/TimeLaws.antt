@@ -1,13 +1,21 @@
 -- States laws of time: where two cores or two worlds are equal but for it, turns that use no time
--- keep them so.
-use Rattle.std.specs.Prelude.{◌≡◌, ℕ, zero, suc, ◌≤◌, true, false, ◌⊎◌, List, [], ◌∷◌, length}
+-- keep them so. Where they are equal but for bits of timers in INTERRUPT, turns keep them so that take
+-- no other interrupt for it and read no register of time.
+use Rattle.std.specs.Prelude.{◌≡◌, ℕ, zero, suc, ◌≤◌, true, false, ◌&&◌, ◌⊎◌, List, [], ◌∷◌}
+use Rattle.std.specs.Prelude.{length, slice_set}
+use Rattle.xt_special.specs.Numbers as number
+use Rattle.xt_special.specs.Access.{without_bits}
+use Rattle.xt_special.specs.Control.{special_of}
+use Rattle.xt_special.specs.Interrupts.{pending_of}
 use Rattle.xt_map.specs.Code.{AreBytes}
+use Rattle.xt_map.specs.Fetching.{fetch_at}
 use Rattle.xt_trace.specs.Traces.{has_stopped}
 use Rattle.xt_trace.specs.Worlds.{Core, World, advance, give}
 use Rattle.xt_exec.specs.Chips.{processor}
 use Rattle.xt_exec.specs.State.{State}
 use Rattle.xt_exec.specs.Turn.{Planned, planned_turn}
-use Rattle.xt_timeless.specs.Time.{AreEqualButForTime, uses_time, without_time}
+use Rattle.xt_timeless.specs.Time.{AreEqualButForTime, executes, fetches_time}
+use Rattle.xt_timeless.specs.Time.{timer_bits, uses_time, without_time}
 
 -- ---- one turn
 
@@ -31,6 +39,36 @@ abbrev pub TimeIsUsedByBoth : Type 0
 TimeIsUsedByBoth =
     (code : ℕ → ℕ) (s t : State) → AreBytes code → without_time s ≡ without_time t
     → uses_time code s ≡ uses_time code t
+
+-- ---- the bits of timers in INTERRUPT
+
+-- INTERRUPT is this word
+abbrev pub with_interrupt : ℕ → State → State
+with_interrupt v s = record s {
+  control = record s.control { special = slice_set s.control.special number.interrupt v };
+}
+
+-- they are equal but for the bits of timers in INTERRUPT after them
+pub record DifferInTimers (p q : Planned) : Type 0 where
+  pub kind : p.kind ≡ q.kind
+  pub write : p.write ≡ q.write
+  pub access : p.access ≡ q.access
+  pub awaited : p.awaited ≡ q.awaited
+  pub interrupt : ℕ
+  pub others : without_bits interrupt timer_bits
+      ≡ without_bits (special_of p.after.control number.interrupt) timer_bits
+  pub after : q.after ≡ with_interrupt interrupt p.after
+
+-- If other bits of timers in INTERRUPT let the same interrupt in, or none, a turn that does not read a
+-- register of time is the same.
+abbrev pub TimersWait : Type 0
+TimersWait =
+    (code : ℕ → ℕ) (s : State) (v : ℕ) → AreBytes code
+    → without_bits v timer_bits
+    ≡ without_bits (special_of s.control number.interrupt) timer_bits
+    → pending_of (with_interrupt v s).control ≡ pending_of s.control
+    → (executes (planned_turn code s).kind && fetches_time (fetch_at code s.control.pc)) ≡ false
+    → DifferInTimers (planned_turn code s) (planned_turn code (with_interrupt v s))
 
 -- ---- the turns of a list
 
