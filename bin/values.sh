@@ -42,6 +42,10 @@ show_value() {
         --turns[01] | --entry1 | --vecbase | --seed | --from | --to | --states | --depth | --word | gen)
             fits "$number" "$word" || show_one "$before" "$word" "no number, which is $digits"
             ;;
+        --show)
+            fits "($number|stuck)" "$word" ||
+                show_one "$before" "$word" "neither the number of an outcome nor \`stuck\`"
+            ;;
         --stack[01]) fits "$number:$number" "$word" || show_one "$before" "$word" "no range \`LO:HI\` of two numbers" ;;
         --order)
             fits "$number\*$number(,$number\*$number)*" "$word" ||

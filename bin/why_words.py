@@ -412,6 +412,67 @@ def frames_of_orders(it: Object) -> list[str]:
     return lines
 
 
+# ---- Orders with moments.
+
+
+def moments(it: Object) -> list[str]:
+    """What orders with moments lead to."""
+    if it["answer"] == "all":
+        head = "all were looked at: " + ends_text(it)
+    elif it["lack"] == "time" and it["time"]:
+        place = where(it["time"]["at"].place)
+        head = "not all were looked at: what CCOUNT is decides something on core %d, in %s" % (it["time"]["core"], place)
+    else:
+        head = "not all were looked at: " + MOMENT_LACKS[it["lack"]].format(it["states"])
+    lines = finding("moments", head)
+    for number, end in enumerate(it["ends"][:MOST_TEXTS], 1):
+        lines += end_lines(it, number, end)
+    if len(it["ends"]) > MOST_TEXTS:
+        lines.append("        and %d other ends" % (len(it["ends"]) - MOST_TEXTS))
+    if it["stuck"]:
+        lines += moment_lines("the cores can never both end ", it["stuck"])
+    elif it["is_settled"]:
+        lines.append("        nothing is stuck: at each point of each order both cores can still end")
+    return lines
+
+
+MOMENT_LACKS = {
+    "states": "there are more than {} states of the two cores",
+    "time": "what CCOUNT is decides something",
+    "memory": "there was too little memory",
+}
+
+
+def ends_text(it: Object) -> str:
+    """How many ends there are."""
+    count = len(it["ends"])
+    return "the cores can end in one way" if count == 1 else "the cores can end in %d ways" % count
+
+
+def end_lines(it: Object, number: int, end: Object) -> list[str]:
+    """The lines of the end that `outcomes` lists with this number: what is sent and left, and the moments that lead there."""
+    parts = ["%s = %08X" % (word["name"] or "%08X" % word["address"], value)
+             for word, value in zip(it["words"], end["values"])]
+    if len({other["hex"] for other in it["ends"]}) > 1 or not parts:
+        parts.insert(0, "it sends " + sent_text(end))
+    return moment_lines("outcome %d: %s " % (number, ", ".join(parts)), end)
+
+
+def moment_lines(head: str, end: Object) -> list[str]:
+    """The lines of an order's moments, and of what is lost by them."""
+    fires = ["timer %d of core %d fires %s step %d" % (
+        one["timer"], one["core"], "after" if one["is_after"] else "before", one["step"]) for one in end["moments"]]
+    lines = [] if fires else ["        %sif no timer fires, with %s" % (head, order(["--order", end["order"]]))]
+    for at, (text, one) in enumerate(zip(fires, end["moments"])):
+        lines.append("        " + (head + "if " + text if at == 0 else "    and " + text))
+        lines += stack.shown(one["calls"], one["instruction"] or "")
+    for found in end["lost"]:
+        places = (named(found), line_of(found["load"].place), line_of(found["store"].place))
+        text = "the interrupt comes between a load of %s at %s and the store at %s: what it stores there is lost" % places
+        lines.append("        " + text)
+    return lines
+
+
 def interrupts(it: Object) -> list[str]:
     head = " %d of core %d; " % (it["times"], it["core"])
     if not it["lost"]:
@@ -430,7 +491,8 @@ def interrupts(it: Object) -> list[str]:
 
 
 BY_KIND = {
-    "stack": verdict, "uses": verdict, "secret": secret, "race": race, "orders": orders, "interrupts": interrupts,
+    "stack": verdict, "uses": verdict, "secret": secret, "race": race, "orders": orders, "moments": moments,
+    "interrupts": interrupts,
 }
 
 

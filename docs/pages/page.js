@@ -25,6 +25,8 @@ const SETTERS = {
     window: (run, words) => { [run.first, run.last, run.end] = words.map(Number); },
     options: (run, words) => { const [vecbase, ...ends] = words.map(Number); Object.assign(run, { vecbase, stacks: [ends.slice(0, 2), ends.slice(2)] }); },
     titled: (run, words) => { run.titled = words.join(' '); },
+    moments: run => { run.moments = true; },
+    fires: (run, words) => { run.fires.push({ k: words[0] - run.first, core: +words[1], timer: +words[2] }); },
     shown: (run, words) => { run.shown = words.length ? words.map(Number) : [0]; },
     accesses: run => { run.accesses = true; },
     big: run => { run.big = true; },
@@ -40,7 +42,7 @@ const SETTERS = {
 };
 
 function readLines(text) {
-    const run = { code: new Map(), lines: new Map(), sources: [], names: [], turns: [], opening: [{}, {}], ends: [], ps: [[], []], words: new Map(), stale: new Map(), came: new Map(), sent: [] };
+    const run = { code: new Map(), lines: new Map(), sources: [], names: [], turns: [], opening: [{}, {}], ends: [], ps: [[], []], words: new Map(), stale: new Map(), came: new Map(), sent: [], fires: [] };
     for (const line of text.split('\n')) {
         const [word, ...words] = line.split(' ');
         if (word in SETTERS) SETTERS[word](run, words);
@@ -164,7 +166,7 @@ function momentsOf(run) {
 
 // A core at the first position: its frames are those of the ring, and then of the save areas.
 function opening(run, c) {
-    const core = { ...run.opening[c], c, mask: 0xFFFF, handler: null, nested: null, quiet: false, inside: false, made: 0, low: null };
+    const core = { ...run.opening[c], c, mask: 0xFFFF, handler: null, nested: null, quiet: false, inside: false, raised: [], made: 0, low: null };
     core.frames = core.depth === null ? null : framesFrom(run, core, core.depth);
     core.low = follow(run, core);
     return core;
@@ -198,6 +200,9 @@ function stepped(run, before, moment) {
         after.ring = before.ring.slice();
         after.ring[moment.place] = written.value;
     }
+    // The exceptions and interrupts whose handlers are at work: RFE and RFI end the newest.
+    if (event.kind === 'int' || event.kind === 'exc') after.raised = [...before.raised, event.kind];
+    if (did && /^rf[ei]$/.test(moment.words[0])) after.raised = before.raised.slice(0, -1);
     if (event.kind === 'window') begin(before, after, moment);
     after.inside = before.nested !== null || before.handler !== null && event.kind === 'int' && event.n === 5;
     after.quiet = !after.inside && (before.handler !== null || after.handler !== null);
@@ -441,7 +446,7 @@ function drawCode({ c, section }, moment) {
     // Where the next instruction is far from the step's, it stands by itself.
     if (known && !rows.some(text => text.includes(' next"'))) rows = [...codeRows(middle, 4, 3, row), '  \u22EE', ...codeRows(core.pc, 1, 3, row)];
     if (!known) rows.push(`<span class="next">\u25B6 ${hex8(core.pc)}</span> is in no segment of code`);
-    section.querySelector('.code').innerHTML = `<div class="windows">WINDOWBASE <b>${core.wb}</b> WINDOWSTART <b>${hex4(core.ws)}</b> PS <b>${hex8(core.ps)}</b></div>` + rows.slice(0, 14).join('\n');
+    section.querySelector('.code').innerHTML = `<div class="windows">WINDOWBASE <b>${core.wb}</b> WINDOWSTART <b>${hex4(core.ws)}</b> ${run.moments ? '' : `PS <b>${hex8(core.ps)}</b>`}</div>` + rows.slice(0, 14).join('\n');
 }
 
 function drawStack({ c, section }, moment, gone) {
@@ -531,6 +536,7 @@ function nestedText({ nested: { marks, saved }, handler }) {
 function noFrames(core, broken) {
     if (broken) return `The machine with unbounded frames ends here: ${breachText()}.`;
     if (core.frames) return '';
+    if (run.moments) return 'No frames: xt does not judge orders with moments.';
     if (!/^(\S+ yes ?){6}$/.test(run.handlers.trim())) return `No frames: a window handler does not pass its check (${run.handlers}).`;
     return 'No frames: a breach stands before the first step of this page.';
 }
@@ -543,12 +549,16 @@ function breachText() {
 // ---- What the step did, in words.
 
 function sentence(moment) {
-    if (moment.core === null) return run.end === 0 ? 'This run is empty: no core made a step.' : `Position ${run.first}: before the first step of this page.`;
+    if (moment.core === null) return (run.end === 0 ? 'This run is empty: no core made a step.' : `Position ${run.first}: before the first step of this page.`) + firesText(moment);
     const head = `Position ${run.first + moment.k}, after step ${moment.step} of core ${moment.core}: <b class="mono">${hex8(moment.pc)} ${escape(moment.text || '?')}</b>`;
     const from = run.lines.get(moment.pc);
     return `${head} \u2014 ${escape(effect(moment))}${moment.sign === 'breach' ? `. <b>S${escape(breachText()).slice(1)}</b>` : moment.sign === 'uses' ? `. <b>\u2018uses\u2019 names this step: ${escape(run.uses)}</b>` : moment.sign === 'secret' ? '. <b>It uses a bit that depends on a secret</b>' : ''}`
-        + (from ? ` <span class="c">${escape(from.name)} ${escape(from.text)}</span>` : '');
+        + (from ? ` <span class="c">${escape(from.name)} ${escape(from.text)}</span>` : '') + firesText(moment);
 }
+
+// Which timers fire at a moment, before the next turn.
+const firesAt = moment => run.fires.filter(fire => fire.k === moment.k && run.shown.includes(fire.core));
+const firesText = moment => firesAt(moment).map(fire => ` <b>Timer ${fire.timer} of core ${fire.core} fires here.</b>`).join('');
 
 function effect(moment) {
     const core = moment.cores[moment.core], { kind, n } = moment.event;
@@ -649,7 +659,7 @@ const timeX = k => (1.5 + 97 * k / Math.max(1, moments.length - 1)).toFixed(3) +
 
 function drawTime() {
     const total = Math.max(1, moments.length - 1), big = html.classList.contains('big'), lane = two ? big ? 40 : 46 : 62;
-    const parts = [`<defs><pattern id="hatch" width="6" height="6" patternUnits="userSpaceOnUse" patternTransform="rotate(45)"><rect width="6" height="6" fill="#ddd"/><rect width="2" height="6" fill="#777"/></pattern><pattern id="dots" width="6" height="6" patternUnits="userSpaceOnUse"><rect width="6" height="6" fill="#eee"/><circle cx="3" cy="3" r="1.5" fill="#777"/></pattern></defs>`];
+    const parts = [`<defs><pattern id="hatch" width="6" height="6" patternUnits="userSpaceOnUse" patternTransform="rotate(45)"><rect width="6" height="6" fill="#ddd"/><rect width="2" height="6" fill="#777"/></pattern><pattern id="dots" width="6" height="6" patternUnits="userSpaceOnUse"><rect width="6" height="6" fill="#eee"/><circle cx="3" cy="3" r="1.5" fill="#777"/></pattern><pattern id="shade" width="6" height="6" patternUnits="userSpaceOnUse"><rect width="6" height="6" fill="#f6dcc8"/></pattern></defs>`];
     const wide = d => (97 * d / total).toFixed(3) + '%', signs = [];
     run.shown.forEach((c, n) => {
         const at = n * lane, floor = at + lane - 4, height = lane - 26;
@@ -659,7 +669,8 @@ function drawTime() {
         const work = k => {
             const core = moments[k].cores[c], own = moments[k].core === c;
             if (own ? core.inside : core.nested !== null) return 'dots';
-            return (own ? core.quiet : core.handler !== null) ? 'hatch' : '';
+            if (own ? core.quiet : core.handler !== null) return 'hatch';
+            return core.raised.includes('int') ? 'shade' : '';
         };
         for (let k = 0, from = 0; k < moments.length; k++) {
             if (k + 1 < moments.length && depths[k + 1] === depths[from] && work(k + 1) === work(from)) continue;
@@ -669,6 +680,7 @@ function drawTime() {
             from = k + 1;
         }
         moments.forEach(moment => { if (moment.sign && moment.core === c) signs.push(`<text x="${timeX(moment.k)}" y="${at + 16}" text-anchor="middle"${moment.sign === 'breach' ? ' fill="#b33c00" font-weight="bold"' : ''}>${SIGNS[moment.sign][0]}</text>`); });
+        run.fires.filter(fire => fire.core === c && fire.k < moments.length).forEach(fire => signs.push(`<line x1="${timeX(Math.min(fire.k + .5, total))}" x2="${timeX(Math.min(fire.k + .5, total))}" y1="${at + 18}" y2="${floor}" stroke="#111" stroke-width="2" stroke-dasharray="4 2"/><text x="${timeX(Math.min(fire.k + .5, total))}" y="${at + 16}" text-anchor="end" font-weight="bold">T${fire.timer}</text>`));
         if (depths.some(depth => depth !== null)) parts.push(`<text x="2" y="${floor - height + 8}" fill="#555">${most}</text>${height > 18 ? `<text x="2" y="${floor}" fill="#555">0</text>` : ''}`);
         if (two) parts.push(`<text x="2" y="${at + 15}" font-weight="bold">${c}</text>`);
     });
@@ -700,6 +712,8 @@ function drawLegend() {
         } else signs.push('<span><b>\u25B8</b> the stack pointer, a1</span>');
     }
     if (moments.some(moment => moment.cores.some(core => core.quiet))) signs.push(key(hatch('#ddd', '#777', 3, 5), 'a window handler is at work'));
+    if (moments.some(moment => moment.cores.some(core => core.raised.includes('int')))) signs.push(key('border-color:#f6dcc8;background:#f6dcc8', 'in the time line: the handler of an interrupt is at work'));
+    for (const timer of new Set(run.fires.map(fire => fire.timer))) signs.push(`<span><b>T${timer}</b> timer ${timer} fires</span>`);
     if (moments.some(moment => moment.cores.some(core => core.inside))) signs.push(key('background:radial-gradient(#777 1px,#eee 1.5px) 0 0/5px 5px', 'an interrupt inside it'), '<span><u style="text-decoration:underline dotted 2px">a2</u> a mark</span>');
     if (folded) signs.push('<span>load, store and swap (S32C1I) with the value in hexadecimal digits; 0\u21921 found 0 and stored 1; 1, kept found 1 and stored nothing</span>');
     signs.push('<span>keys: left, right a step; up, down a sign; space plays; r rings; b big</span>');

@@ -157,8 +157,8 @@ keep:   s32i a2, a0, 8
         s32i a13, a2, 52
         s32i a14, a2, 56
         s32i a15, a2, 60
-        rsr a3, ccompare0
-        wsr a3, ccompare0       # a write takes the interrupt away
+        _movi a3, 0             # `_` keeps it three bytes long
+        wsr a3, intenable       # the timer comes no more, until timer_after lets it
         call4 on_timer          # a2 and a3 stay, as on_timer sees a4 as its a0
         l32i a4, a2, 16
         l32i a5, a2, 20

@@ -164,6 +164,14 @@ class Runs(unittest.TestCase):
         depths = [it.frames.depth for it in run.trace(frames=True) if it.frames]
         self.assertEqual(max(depths), 10)
 
+    def test_moments(self) -> None:
+        """docs/OUTCOMES.md: the outcomes of examples/moment.s, and the turns of the second one's order."""
+        run = xt.Run(image("moment.s"), program(), entry1=0x400D0034)
+        found = run.outcomes(0x3FFB0000, any_time=True, show="2")
+        self.assertEqual([list(it.words.values()) for it in found.outcomes], [[3], [4]])
+        self.assertEqual((found.stuck, found.end), ("none", "all"))
+        self.assertEqual([it["event"] for it in found.shown if it["core"] == 0].count("int"), 1)
+
     def test_outcomes(self) -> None:
         """docs/OUTCOMES.md: of two additions one may be lost; the orders lead there again."""
         run = xt.Run(image("lost.s"), program())

@@ -5,7 +5,7 @@ import unittest
 from support import cases
 import xt
 from xt import lines
-from xt.outcomes import OrderBreach
+from xt.outcomes import Moment, OrderBreach, moments_of
 from xt.report import race_of, secrets_of, uses_of
 
 LETTER = b"""uart 1
@@ -176,6 +176,15 @@ class Reports(unittest.TestCase):
         self.assertEqual([it.mnemonic for it in found.race_turns], ["s32i", "l32i"])
         self.assertEqual(found.breaches, [OrderBreach("SaveStore", 1, 0x400D0010, "1*6")])
         self.assertEqual((found.end, found.is_all, found.uses_time), ("time", False, (1, 0x400D0010)))
+        self.assertEqual(found.shown, [])
+
+    def test_moments(self) -> None:
+        text = LOST.replace(b"order 0*5,1*5", b"order 0*2,1!1,0*3,1*5,0!0") + b"0 0 400D0004 stop | break 1, 15\n"
+        found = xt.Outcomes.of(objects(text))
+        self.assertEqual(moments_of(found.outcomes[1].order), [Moment(1, 1, 0, 2), Moment(0, 0, 5, 10)])
+        self.assertEqual(moments_of(found.outcomes[0].order), [])
+        self.assertEqual([xt.Turn.of(it).pc for it in found.shown], [0x400D0004])
+        self.assertEqual(len(found.race_turns), 2)
 
 
 class Turns(unittest.TestCase):

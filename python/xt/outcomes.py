@@ -21,6 +21,29 @@ class Outcome:
 
 
 @dataclass(frozen=True)
+class Moment:
+    """A timer of a core that fires, before the core's step of this number. Before it the order has
+    so many turns of both cores."""
+
+    core: int
+    timer: int
+    step: int
+    position: int
+
+
+def moments_of(order: str) -> list[Moment]:
+    """The moments of an order that `outcomes --any-time` prints."""
+    found, steps = [], [0, 0]
+    for part in order.split(","):
+        core, timer = int(part[0]), part[2:] if part[1] == "!" else ""
+        if timer:
+            found.append(Moment(core, int(timer), steps[core], sum(steps)))
+        else:
+            steps[core] += int(part[2:])
+    return found
+
+
+@dataclass(frozen=True)
 class OrderBreach:
     """A first breach, and the order of the run that has it."""
 
@@ -33,7 +56,8 @@ class OrderBreach:
 @dataclass
 class Outcomes:
     """All outcomes. `stuck` and `race` are an order, or `none` or `unknown`; `frames` is `whole`,
-    `none`, `unknown` or `broken`, then with breaches; `end` is `all`, `frames`, `states` or `time`."""
+    `none`, `unknown` or `broken`, then with breaches; `end` is `all`, `frames`, `states` or `time`.
+    `shown` has the turns of the order that `--show` names, as objects."""
 
     outcomes: list[Outcome] = field(default_factory=list)
     stuck: str = "unknown"
@@ -43,6 +67,7 @@ class Outcomes:
     breaches: list[OrderBreach] = field(default_factory=list)
     end: str = ""
     uses_time: Optional[tuple[int, int]] = None  # a core and its pc, where `end` is `time`
+    shown: list[Object] = field(default_factory=list)
 
     @property
     def is_all(self) -> bool:
@@ -52,10 +77,12 @@ class Outcomes:
     @classmethod
     def of(cls, lines: Iterable[Object]) -> Outcomes:
         rows = list(lines)
-        if not rows or rows[-1]["line"] != "end":
+        end = next((at for at, it in enumerate(rows) if it["line"] == "end"), None)
+        if end is None:
             raise LineError("no text of outcomes")
+        rows, shown = rows[: end + 1], rows[end + 1 :]
         heads = {it["line"]: it for it in rows}
-        made = cls(outcomes_of(rows), end=heads["end"]["answer"])
+        made = cls(outcomes_of(rows), end=heads["end"]["answer"], shown=shown)
         for name in ("stuck", "race"):
             it = heads[name]
             setattr(made, name, it.get("order") or it["answer"])

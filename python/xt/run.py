@@ -125,12 +125,15 @@ class Run:
             raise ValueError("a recording does not say the order: make a Run of its image")
         return self.options.words()
 
-    def outcomes(self, *words: int, timed: bool = False, states: Optional[int] = None) -> Outcomes:
+    def outcomes(self, *words: int, timed: bool = False, any_time: bool = False,
+                 show: Optional[str] = None, states: Optional[int] = None) -> Outcomes:
         """All ways in which the two cores can end; `words` are addresses that belong to an
         outcome."""
         asked = ["outcomes", *self.options.words("entry1", "vecbase", "stack0", "stack1")]
         if timed:
             asked += ["--timed", *self.options.words("turns0", "turns1")]
+        asked += ["--any-time"] if any_time else []
+        asked += [] if show is None else ["--show", show]
         asked += [it for word in words for it in ("--word", f"0x{word:08X}")]
         asked += [] if states is None else ["--states", str(states)]
         return Outcomes.of(self.program.objects(asked, self.image))

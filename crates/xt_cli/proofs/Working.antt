@@ -18,26 +18,20 @@ use Rattle.xt_tools.proofs.Putting.{IsOfFault, elf_is_fault, image_is_fault, rec
 use Rattle.xt_cli.specs.declared.tool.Job.{Job}
 use Rattle.xt_cli.specs.declared.tool.Job.TheVariants as job
 use Rattle.xt_cli.specs.Puts.{HasText, IsWhole, Puts, Replays, status_beyond}
-use Rattle.xt_cli.specs.Tools.{Finishes, HasEnded, HasInput, HasOutput, IsMade, IsWritten, Makes, done_status, leads_beyond, limit_of, refusal_of}
+use Rattle.xt_cli.specs.Tools.{Finishes, HasEnded, HasInput, HasOutput, IsMade, IsWritten, Makes}
+use Rattle.xt_cli.specs.Tools.{Input, Text, Executable, Image, Recording, input_of}
+use Rattle.xt_cli.specs.Tools.{done_status, leads_beyond, limit_of, refusal_in, refusal_of}
 
 -- ---- a refusal of an input is a fault of a text, of an ELF executable, of an image or of a recording
 
+fault_in : (i : Input) (input : List ℕ) (s : Status) → refusal_in i input ≡ Some s → IsOfFault s
+fault_in Text = text_is_fault
+fault_in Executable = elf_is_fault
+fault_in Image = image_is_fault
+fault_in Recording = recording_is_fault
+
 refusal_is_fault : (j : Job) (input : List ℕ) (s : Status) → refusal_of j input ≡ Some s → IsOfFault s
-refusal_is_fault job.Assemble input s h = text_is_fault input s h
-refusal_is_fault job.Convert input s h = elf_is_fault input s h
-refusal_is_fault (job.List listing) input s h = image_is_fault input s h
-refusal_is_fault job.Map input s h = text_is_fault input s h
-refusal_is_fault (job.Check vecbase) input s h = image_is_fault input s h
-refusal_is_fault job.Migrate input s h = recording_is_fault input s h
-refusal_is_fault (job.Replay commands b) input s h = recording_is_fault input s h
-refusal_is_fault job.Events input s h = recording_is_fault input s h
-refusal_is_fault job.Counts input s h = recording_is_fault input s h
-refusal_is_fault (job.Trace turns) input s h = recording_is_fault input s h
-refusal_is_fault job.Race input s h = recording_is_fault input s h
-refusal_is_fault (job.Profile options) input s h = recording_is_fault input s h
-refusal_is_fault (job.Uses d) input s h = recording_is_fault input s h
-refusal_is_fault (job.Secrets options) input s h = recording_is_fault input s h
-refusal_is_fault (job.Outcomes options) input s h = image_is_fault input s h
+refusal_is_fault j = fault_in (input_of j)
 
 -- ---- what was written of an input that was read to its end
 

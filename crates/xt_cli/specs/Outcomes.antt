@@ -9,7 +9,7 @@ use Rattle.xt_moment_search.specs.Told.{IsMomentsTold}
 -- by whether `--any-time` was given
 abbrev pub OutcomesAreTold : (any_time : Bool) → OutcomeOptions → Image → List ℕ → Type 0
 OutcomesAreTold true o image bytes =
-    IsMomentsTold image (with_entry o.run image.entry) o.words bytes
+    IsMomentsTold image (with_entry o.run image.entry) o.words o.shown bytes
 OutcomesAreTold false o image bytes =
     IsAnswersText image (with_entry o.run image.entry) o.timed o.words o.states bytes
 

@@ -14,7 +14,7 @@ use Rattle.xt_asm.specs.Maps.{IsMapOfText}
 use Rattle.xt_record.specs.Fields.{image_in}
 use Rattle.xt_record.specs.Format.{run_in}
 use Rattle.xt_debug.specs.declared.script.Command as script
-use Rattle.xt_debug.specs.Scripts.{script_outcome}
+use Rattle.xt_debug.specs.Scripts.{Outcome, script_outcome}
 use Rattle.xt_report.specs.UseFindings.{IsUsesTold}
 use Rattle.xt_report.specs.SecretFindings.{AreSecretsTold}
 use Rattle.xt_command_line.specs.declared.beyond.Beyond.{Beyond}
@@ -40,53 +40,45 @@ use Rattle.xt_cli.specs.declared.orders.Order.TheVariants as order
 
 -- ---- what a command makes of its input
 
--- the most bytes that the input of a command may have: that of a text, of an ELF executable, of an
--- image, or of a recording
+-- what the input of a command is: a text, an ELF executable, an image, or a recording
+pub data Input : Type 0 where
+  Text : Input
+  Executable : Input
+  Image : Input
+  Recording : Input
+
+abbrev pub input_of : Job → Input
+input_of job.Assemble = Text
+input_of job.Map = Text
+input_of job.Convert = Executable
+input_of (job.List listing) = Image
+input_of (job.Check vecbase) = Image
+input_of (job.Outcomes options) = Image
+input_of _ = Recording
+
+-- the most bytes that it may have
+abbrev pub limit_in : Input → ℕ
+limit_in Text = 1048576
+limit_in Executable = 67108864
+limit_in Image = 8388608
+limit_in Recording = 201326592
+
 abbrev pub limit_of : Job → ℕ
-limit_of job.Assemble = 1048576
-limit_of job.Convert = 67108864
-limit_of (job.List listing) = 8388608
-limit_of job.Map = 1048576
-limit_of (job.Check vecbase) = 8388608
-limit_of job.Migrate = 201326592
-limit_of (job.Replay commands b) = 201326592
-limit_of job.Events = 201326592
-limit_of job.Counts = 201326592
-limit_of (job.Trace turns) = 201326592
-limit_of job.Race = 201326592
-limit_of (job.Profile options) = 201326592
-limit_of (job.Uses d) = 201326592
-limit_of (job.Secrets options) = 201326592
-limit_of (job.Outcomes options) = 8388608
+limit_of j = limit_in (input_of j)
 
--- the status with which a command refuses a whole input, where it does: that of the input's first
--- fault
+-- the status with which a whole input is refused, where it is: that of its first fault
+abbrev pub refusal_in : Input → List ℕ → Option Status
+refusal_in Text = text_refusal
+refusal_in Executable = elf_refusal
+refusal_in Image = image_refusal
+refusal_in Recording = recording_refusal
+
 abbrev pub refusal_of : Job → List ℕ → Option Status
-refusal_of job.Assemble input = text_refusal input
-refusal_of job.Convert input = elf_refusal input
-refusal_of (job.List listing) input = image_refusal input
-refusal_of job.Map input = text_refusal input
-refusal_of (job.Check vecbase) input = image_refusal input
-refusal_of job.Migrate input = recording_refusal input
-refusal_of (job.Replay commands b) input = recording_refusal input
-refusal_of job.Events input = recording_refusal input
-refusal_of job.Counts input = recording_refusal input
-refusal_of (job.Trace turns) input = recording_refusal input
-refusal_of job.Race input = recording_refusal input
-refusal_of (job.Profile options) input = recording_refusal input
-refusal_of (job.Uses d) input = recording_refusal input
-refusal_of (job.Secrets options) input = recording_refusal input
-refusal_of (job.Outcomes options) input = image_refusal input
+refusal_of j = refusal_in (input_of j)
 
--- what a script prints over the run that a recording holds
-unfoldable pub replay_output : List script.Command → Beyond → List ℕ → List ℕ
-replay_output commands b input =
-    (script_outcome b (image_in input) (run_in input) commands 0).text
-
--- it leads beyond that run, and ends there
-unfoldable pub ends_beyond : List script.Command → Beyond → List ℕ → Bool
-ends_beyond commands b input =
-    (script_outcome b (image_in input) (run_in input) commands 0).beyond
+-- what a script comes to over the run that a recording holds
+unfoldable pub replayed : List script.Command → Beyond → List ℕ → Outcome
+replayed commands b input = script_outcome b (image_in input) (run_in input) commands 0
 
 -- the bytes that a command writes for an input that it does not refuse
 abbrev pub IsWritten : Job → List ℕ → List ℕ → Type 0
@@ -96,7 +88,7 @@ IsWritten (job.List listing) input bytes = IsListed listing (image_of input) byt
 IsWritten job.Map input bytes = IsMapOfText input bytes
 IsWritten (job.Check vecbase) input bytes = bytes ≡ check_text (image_of input) vecbase
 IsWritten job.Migrate input bytes = bytes ≡ migrated_recording input
-IsWritten (job.Replay commands b) input bytes = bytes ≡ replay_output commands b input
+IsWritten (job.Replay commands b) input bytes = bytes ≡ (replayed commands b input).text
 IsWritten job.Events input bytes = bytes ≡ events_output input
 IsWritten job.Counts input bytes = IsCountsTold input bytes
 IsWritten (job.Trace turns) input bytes = bytes ≡ trace_output turns input
@@ -113,7 +105,7 @@ IsMade j input bytes = commands.IsMade (refusal_of j input) (IsWritten j input b
 
 -- the command is a script that leads beyond the run, and ends there
 abbrev pub leads_beyond : Job → List ℕ → Bool
-leads_beyond (job.Replay commands b) input = ends_beyond commands b input
+leads_beyond (job.Replay commands b) input = (replayed commands b input).beyond
 leads_beyond _ input = false
 
 -- ---- what each status says

@@ -25,7 +25,7 @@ fn all_outcomes(alloc: Global, options: &OutcomeOptions, image: &Image) -> Resul
     let run = options.run.with_entry(image.entry);
     let addresses = options.words.as_slice();
     if options.any_time {
-        return moments_text(alloc, image, &run, addresses, options.states);
+        return moments_text(alloc, image, &run, addresses, options.states, options.shown);
     }
     outcomes_text(alloc, image, &run, options.timed, addresses, options.states)
 }
@@ -38,5 +38,8 @@ pub fn outcomes(alloc: Global, options: &OutcomeOptions, input: &[u8]) -> Result
     ensures refused { IfErr result (λ status. status ≢ Status.Memory → image_refusal input.now ≡ Some status) }
 {
     let image = image_in(alloc, input)?;
-    all_outcomes(alloc, options, &image).map_err(|_| Status::Memory)
+    match all_outcomes(alloc, options, &image) {
+        Ok(text) => Ok(text),
+        Err(_) => Err(Status::Memory),
+    }
 }

@@ -121,7 +121,7 @@ fn replayed(
 }
 
 // What a script prints over a recording, or the status of the recording's first fault.
-#[tactic(auto, unfolding(crate::specs::Tools::replay_output, crate::specs::Tools::ends_beyond))]
+#[tactic(auto, unfolding(crate::specs::Tools::replayed))]
 fn replay(alloc: Global, script: &Script, beyond: Beyond, input: &[u8]) -> Result<Printed, Status>
     requires { All IsInRange script.now }
     ensures ok { IfOk result (λ printed. IsMade (Job.Replay script.now beyond) input.now printed.text) }

@@ -5,7 +5,8 @@ use Rattle.std.proofs.lemmas.List.{drop_all}
 use Rattle.std.proofs.lemmas.Str.Pattern.{IsSplitOnceResult, split_once_first}
 use Rattle.std.specs.List.{position_or_len, before_first, after_first}
 use Rattle.xt_command_line.specs.Numbers.{number_of}
-use Rattle.xt_command_line.specs.Options.{stack_between, colon, range_of}
+use Rattle.xt_command_line.specs.Options.{stack_between, range_of}
+use Rattle.xt_command_line.specs.Parts.{colon}
 
 no_number : number_of [] ≡ None
 unfolding number_of

@@ -1,14 +1,12 @@
--- The words of memory that texts list.
-use Rattle.std.proofs.Common.{◌≡◌, ℕ, List, [], ◌∷◌, ◌++◌, Bor, length, Option, Some, None, arith, refl, sym, ap, ◌∙◌, append_assoc, append-nil}
+-- The place that a text says, with and without a colon.
+use Rattle.std.proofs.Common.{◌≡◌, ℕ, List, [], Bor, length, Option, Some, None, arith, refl, sym}
 use Rattle.std.specs.Prelude.{◌==◌}
 use Rattle.std.proofs.lemmas.List.{drop_all}
 use Rattle.std.proofs.lemmas.Str.Pattern.{IsSplitOnceResult, split_once_first}
 use Rattle.std.specs.List.{position_or_len, before_first, after_first}
 use Rattle.xt_command_line.specs.Numbers.{number_of}
-use Rattle.xt_command_line.specs.Spans.{all_spans, and_all, colon, span_by, span_of}
-use Rattle.xt_command_line.specs.declared.spans.Span.{Span}
-
--- ---- one part, with and without a colon
+use Rattle.xt_command_line.specs.Parts.{colon}
+use Rattle.xt_command_line.specs.Spans.{span_by, span_of}
 
 no_number : number_of [] ≡ None
 unfolding number_of
@@ -35,27 +33,3 @@ some_span text r split x is = let (inside, front, back) = rw is at (split_once_f
 
 pub no_span : (text : List ℕ) (r : Option (Bor (List ℕ) × Bor (List ℕ))) → IsSplitOnceResult colon text r → r ≡ None → None ≡ span_of text
 no_span text r split is = let none = rw is at (split_once_first colon text r split (omega arith)) in without_colon text none
-
--- ---- all parts
-
--- words that were read, before what follows
-abbrev pub before : List Span → Option (List Span) → Option (List Span)
-before xs None = None
-before xs (Some ys) = Some (xs ++ ys)
-
-pub before_any : (o : Option (List Span)) → before [] o ≡ o
-before_any None = refl
-before_any (Some ys) = refl
-
-pub one_more : (xs : List Span) (s : Span) (o : Option (List Span)) → before xs (and_all (Some s) o) ≡ before (xs ++ s ∷ []) o
-one_more xs s None = refl
-one_more xs s (Some ys) = ap Some (sym (append_assoc xs (s ∷ []) ys))
-
-pub no_more : (xs : List Span) → before xs (all_spans []) ≡ Some xs
-no_more xs = ap Some (append-nil xs)
-
-pub goes_on : (xs : List Span) (o : Option Span) (s : Span) (rest : Option (List Span)) → o ≡ Some s → before (xs ++ s ∷ []) rest ≡ before xs (and_all o rest)
-goes_on xs o s rest is = sym (ap (λ p. before xs (and_all p rest)) is ∙ one_more xs s rest)
-
-pub stops : (xs : List Span) (o : Option Span) (rest : Option (List Span)) → o ≡ None → before xs (and_all o rest) ≡ None
-stops xs o rest is = ap (λ p. before xs (and_all p rest)) is

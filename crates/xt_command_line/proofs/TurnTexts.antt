@@ -7,7 +7,8 @@ use Rattle.std.proofs.lemmas.List.Elements.{All-append, All-nil, All-replicate}
 use Rattle.std.proofs.lemmas.Str.Pattern.{IsSplitOnceResult, split_once_first}
 use Rattle.std.specs.List.{position_or_len, before_first, after_first}
 use Rattle.xt_command_line.specs.Numbers.{number_of}
-use Rattle.xt_command_line.specs.TurnOrders.{and_all, core_of, cores_of, number_of_core, star, turns_by, turns_of}
+use Rattle.xt_command_line.specs.Parts.{and_all}
+use Rattle.xt_command_line.specs.TurnOrders.{core_of, cores_of, number_of_core, star, turns_by, turns_of}
 use Rattle.xt_command_line.specs.declared.turn_orders.CoreTurns.{CoreTurns}
 use Rattle.xt_command_line.specs.declared.turn_orders.Which.{Which}
 use Rattle.xt_command_line.specs.declared.turn_orders.Which.TheVariants as which

@@ -1,11 +1,12 @@
 -- What the words of `check`, `gen`, `replay`, `uses` and `secrets` say ('profile').
 use Rattle.std.specs.Prelude.{◌≡◌, ℕ, ◌%◌, true, ◌==◌, List, Option, Some, None, Result, Ok, Err}
-use Rattle.std.specs.Prelude.{if◌then◌else◌, codes, option_and_then}
-use Rattle.clap.specs.Words.{App, Row, Rule, Text, first_of, new_app, new_rule, with_rule}
+use Rattle.std.specs.Prelude.{[], ◌∷◌, if◌then◌else◌, codes, fold, ok_or, option_and_then}
+use Rattle.clap.specs.Words.{App, Rule, Text, first_of, new_app, new_rule, with_rule}
+use Rattle.xt_command_line.specs.MeaningAnswers.{and_then}
 use Rattle.xt_command_line.specs.Numbers.{number_of}
 use Rattle.xt_command_line.specs.Options.{is_set, said_or, with_flag, with_option}
 use Rattle.xt_command_line.specs.Secrets.{secrets_in}
-use Rattle.xt_command_line.specs.Simple.{rows_by}
+use Rattle.xt_command_line.specs.Simple.{matched_by}
 use Rattle.xt_command_line.specs.declared.command.Refusal.{Refusal}
 use Rattle.xt_command_line.specs.declared.command.Rigor.{Rigor}
 use Rattle.xt_command_line.specs.declared.command.Rigor.TheVariants as rigor
@@ -26,14 +27,10 @@ judged_vecbase None = Err (refusal.Usage 4)
 judged_vecbase (Some vecbase) =
     if vecbase % 1024 == 0 then Ok vecbase else Err (refusal.Usage 7)
 
-abbrev pub vecbase_by : Option (List Row) → Result ℕ Refusal
-vecbase_by None = Err (refusal.Usage 3)
-vecbase_by (Some rows) =
-    judged_vecbase (said_or number_of 0x40080000 (first_of (codes "vecbase") rows))
-
 -- the VECBASE that the words of `check` say, or the first rule of usage that they break
 abbrev pub vecbase_of : List Text → Result ℕ Refusal
-vecbase_of words = vecbase_by (rows_by check_app words)
+vecbase_of words = and_then (matched_by check_app words) (λ rows.
+    judged_vecbase (said_or number_of 0x40080000 (first_of (codes "vecbase") rows)))
 
 -- ---- gen N
 
@@ -44,20 +41,10 @@ positional_rule name = record (new_rule name) { required = true }
 abbrev pub gen_app : App
 gen_app = with_rule (new_app (codes "gen")) (positional_rule (codes "number"))
 
-abbrev pub number_in : Option Text → Option ℕ
-number_in text = option_and_then number_of text
-
-abbrev pub judged_number : Option ℕ → Result ℕ Refusal
-judged_number None = Err (refusal.Usage 4)
-judged_number (Some number) = Ok number
-
-abbrev pub number_by : Option (List Row) → Result ℕ Refusal
-number_by None = Err (refusal.Usage 3)
-number_by (Some rows) = judged_number (number_in (first_of (codes "number") rows))
-
 -- the number that the words of `gen` say, or the first rule of usage that they break
 abbrev pub generator_number_of : List Text → Result ℕ Refusal
-generator_number_of words = number_by (rows_by gen_app words)
+generator_number_of words = and_then (matched_by gen_app words) (λ rows.
+    ok_or (option_and_then number_of (first_of (codes "number") rows)) (refusal.Usage 4))
 
 -- ---- replay [--lenient] SCRIPT
 
@@ -67,54 +54,29 @@ replay_app =
     (with_rule (new_app (codes "replay")) (positional_rule (codes "script")))
     (codes "lenient")
 
-abbrev pub given_text : Option Text → Result Text Refusal
-given_text None = Err (refusal.Usage 3)
-given_text (Some text) = Ok text
-
-abbrev pub script_text_by : Option (List Row) → Result Text Refusal
-script_text_by None = Err (refusal.Usage 3)
-script_text_by (Some rows) = given_text (first_of (codes "script") rows)
-
 -- the text of the script that the words of `replay` have, or the rule of usage that they break
 abbrev pub script_text_of : List Text → Result Text Refusal
-script_text_of words = script_text_by (rows_by replay_app words)
+script_text_of words = and_then (matched_by replay_app words) (λ rows.
+    ok_or (first_of (codes "script") rows) (refusal.Usage 3))
 
 -- ---- uses [--lenient]
 
 abbrev pub uses_app : App
 uses_app = with_flag (new_app (codes "uses")) (codes "lenient")
 
-abbrev pub rigor_by : Option (List Row) → Result Rigor Refusal
-rigor_by None = Err (refusal.Usage 3)
-rigor_by (Some rows) =
-    if is_set (first_of (codes "lenient") rows) then Ok rigor.Lenient else Ok rigor.Strict
-
 -- the rigor that the words of `uses` say, or the rule of usage that they break
 abbrev pub rigor_of : List Text → Result Rigor Refusal
-rigor_of words = rigor_by (rows_by uses_app words)
+rigor_of words = and_then (matched_by uses_app words) (λ rows.
+    if is_set (first_of (codes "lenient") rows) then Ok rigor.Lenient else Ok rigor.Strict)
 
 -- ---- secrets --secret LIST [--public LIST]
 
 abbrev pub secrets_app : App
-secrets_app =
-    with_option (with_option (new_app (codes "secrets")) (codes "secret")) (codes "public")
+secrets_app = fold with_option (new_app (codes "secrets")) (codes "secret" ∷ codes "public" ∷ [])
 
--- what is secret, which has to be said
-abbrev pub needed_secrets : Option SecretOptions → Result SecretOptions Refusal
-needed_secrets None = Err (refusal.Usage 10)
-needed_secrets (Some secrets) = Ok secrets
-
-abbrev pub secrets_needed :
-    Result (Option SecretOptions) Refusal → Result SecretOptions Refusal
-secrets_needed (Err r) = Err r
-secrets_needed (Ok secrets) = needed_secrets secrets
-
-abbrev pub secret_options_by : Option (List Row) → Result SecretOptions Refusal
-secret_options_by None = Err (refusal.Usage 3)
-secret_options_by (Some rows) =
-    secrets_needed
-    (secrets_in (first_of (codes "secret") rows) (first_of (codes "public") rows))
-
--- what the words of `secrets` say to be secret, or the first rule of usage that they break
+-- what the words of `secrets` say to be secret, where they say it, or the first rule of usage that
+-- they break
 abbrev pub secret_options_of : List Text → Result SecretOptions Refusal
-secret_options_of words = secret_options_by (rows_by secrets_app words)
+secret_options_of words = and_then (matched_by secrets_app words) (λ rows.
+    and_then (secrets_in (first_of (codes "secret") rows) (first_of (codes "public") rows))
+    (λ secrets. ok_or secrets (refusal.Usage 10)))

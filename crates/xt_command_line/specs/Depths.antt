@@ -1,10 +1,11 @@
 -- What the words of `profile` say ('profile').
 use Rattle.std.specs.Prelude.{ℕ, Bool, ◌&&◌, nat_le, List, Option, Some, None, Result, Ok, Err}
 use Rattle.std.specs.Prelude.{if◌then◌else◌, codes}
-use Rattle.clap.specs.Words.{App, Row, Text, first_of, new_app}
+use Rattle.clap.specs.Words.{App, Text, first_of, new_app}
+use Rattle.xt_command_line.specs.MeaningAnswers.{and_then}
 use Rattle.xt_command_line.specs.Numbers.{number_of}
 use Rattle.xt_command_line.specs.Options.{is_set, said_or, with_flag, with_option}
-use Rattle.xt_command_line.specs.Simple.{rows_by}
+use Rattle.xt_command_line.specs.Simple.{matched_by}
 use Rattle.xt_command_line.specs.declared.command.ProfileOptions.{ProfileOptions}
 use Rattle.xt_command_line.specs.declared.command.Refusal.{Refusal}
 use Rattle.xt_command_line.specs.declared.command.Refusal.TheVariants as refusal
@@ -21,14 +22,10 @@ judged_depth (Some depth) after =
     if nat_le 1 depth && nat_le depth 64
     then Ok (record { depth = depth; after = after }) else Err (refusal.Usage 4)
 
-abbrev pub profile_options_by : Option (List Row) → Result ProfileOptions Refusal
-profile_options_by None = Err (refusal.Usage 3)
-profile_options_by (Some rows) =
-    judged_depth
-    (said_or number_of 8 (first_of (codes "depth") rows))
-    (is_set (first_of (codes "after") rows))
-
 -- how many functions a key has at most, but for cut ones, which is 8 where no word says it, and
 -- whether the turns from the cut on are asked for
 abbrev pub profile_options_of : List Text → Result ProfileOptions Refusal
-profile_options_of words = profile_options_by (rows_by profile_app words)
+profile_options_of words = and_then (matched_by profile_app words) (λ rows.
+    judged_depth
+    (said_or number_of 8 (first_of (codes "depth") rows))
+    (is_set (first_of (codes "after") rows)))

@@ -1,4 +1,5 @@
 pub mod Numbers
+pub mod Parts
 pub mod Simple
 pub mod MeaningAnswers
 pub mod TurnOrders

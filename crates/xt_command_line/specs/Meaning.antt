@@ -3,8 +3,8 @@
 use Rattle.std.specs.Prelude.{◌≢◌, List, [], ◌∷◌, Option, Some, None, Result, Ok, Err}
 use Rattle.std.specs.Prelude.{if◌then◌else◌, codes}
 use Rattle.std.specs.Str.{bytes_eq}
-use Rattle.clap.specs.Words.{Row, Text, new_app}
-use Rattle.xt_command_line.specs.Simple.{rows_by}
+use Rattle.clap.specs.Words.{Text, new_app}
+use Rattle.xt_command_line.specs.Simple.{matched_by}
 use Rattle.xt_command_line.specs.MeaningAnswers.{answer_with}
 use Rattle.xt_command_line.specs.Options.{AreValid, record_options_of, run_options_of}
 use Rattle.xt_command_line.specs.Arguments.{IsVecbase, generator_number_of, rigor_of}
@@ -51,72 +51,34 @@ name_in (n ∷ rest) word = if bytes_eq word n.0 then Some n.1 else name_in rest
 unfoldable pub command_named : Text → Option Name
 command_named word = name_in names word
 
--- what stands for a command that takes no option, by what its simple command matches
-abbrev pub without_options : {A : Type 0} → A → Option (List Row) → Result A Refusal
-without_options answer (Some rows) = Ok answer
-without_options answer None = Err (refusal.Usage 3)
+-- what stands for a command of this name that takes no option
+abbrev pub without_options : {A : Type 0} → Text → A → List Text → Result A Refusal
+without_options name answer words = answer_with (λ _. answer) (matched_by (new_app name) words)
 
--- a command with what its words say, or the rule of usage that they break
-abbrev pub dis_meaning_of : List Text → Result Command Refusal
-dis_meaning_of words = answer_with command.Disassemble (listing_of words)
-
-abbrev pub check_meaning_of : List Text → Result Command Refusal
-check_meaning_of words = answer_with command.Check (vecbase_of words)
-
-abbrev pub run_meaning_of : List Text → Result Command Refusal
-run_meaning_of words = answer_with command.Run (run_options_of words)
-
-abbrev pub record_meaning_of : List Text → Result Command Refusal
-record_meaning_of words = answer_with command.Record (record_options_of words)
-
-abbrev pub gen_meaning_of : List Text → Result Command Refusal
-gen_meaning_of words = answer_with command.Generate (generator_number_of words)
-
-abbrev pub trace_meaning_of : List Text → Result Command Refusal
-trace_meaning_of words = answer_with command.Trace (turns_of words)
-
-abbrev pub uses_meaning_of : List Text → Result Command Refusal
-uses_meaning_of words = answer_with command.Uses (rigor_of words)
-
-abbrev pub secrets_meaning_of : List Text → Result Command Refusal
-secrets_meaning_of words = answer_with command.Secrets (secret_options_of words)
-
-abbrev pub profile_meaning_of : List Text → Result Command Refusal
-profile_meaning_of words = answer_with command.Profile (profile_options_of words)
-
-abbrev pub outcomes_meaning_of : List Text → Result Command Refusal
-outcomes_meaning_of words = answer_with command.Outcomes (outcomes_of words)
-
+-- a command with what its words say, or the rule of usage that they break; the words of `replay`
+-- are judged by themselves
 abbrev pub meaning_by : Option Name → List Text → Result Command Refusal
 meaning_by None words = Err (refusal.Usage 2)
-meaning_by (Some name.Assemble) words =
-    without_options command.Assemble (rows_by (new_app (codes "asm")) words)
-meaning_by (Some name.Convert) words =
-    without_options command.Convert (rows_by (new_app (codes "elf")) words)
-meaning_by (Some name.Disassemble) words = dis_meaning_of words
-meaning_by (Some name.Map) words =
-    without_options command.Map (rows_by (new_app (codes "map")) words)
-meaning_by (Some name.Check) words = check_meaning_of words
-meaning_by (Some name.Run) words = run_meaning_of words
-meaning_by (Some name.Record) words = record_meaning_of words
+meaning_by (Some name.Assemble) words = without_options (codes "asm") command.Assemble words
+meaning_by (Some name.Convert) words = without_options (codes "elf") command.Convert words
+meaning_by (Some name.Disassemble) words = answer_with command.Disassemble (listing_of words)
+meaning_by (Some name.Map) words = without_options (codes "map") command.Map words
+meaning_by (Some name.Check) words = answer_with command.Check (vecbase_of words)
+meaning_by (Some name.Run) words = answer_with command.Run (run_options_of words)
+meaning_by (Some name.Record) words = answer_with command.Record (record_options_of words)
 meaning_by (Some name.Replay) words = Ok command.Replay
-meaning_by (Some name.Migrate) words =
-    without_options command.Migrate (rows_by (new_app (codes "migrate")) words)
-meaning_by (Some name.Events) words =
-    without_options command.Events (rows_by (new_app (codes "events")) words)
-meaning_by (Some name.Counts) words =
-    without_options command.Counts (rows_by (new_app (codes "counts")) words)
-meaning_by (Some name.Trace) words = trace_meaning_of words
-meaning_by (Some name.Race) words =
-    without_options command.Race (rows_by (new_app (codes "race")) words)
-meaning_by (Some name.Profile) words = profile_meaning_of words
-meaning_by (Some name.Uses) words = uses_meaning_of words
-meaning_by (Some name.Secrets) words = secrets_meaning_of words
-meaning_by (Some name.Outcomes) words = outcomes_meaning_of words
-meaning_by (Some name.Generate) words = gen_meaning_of words
+meaning_by (Some name.Migrate) words = without_options (codes "migrate") command.Migrate words
+meaning_by (Some name.Events) words = without_options (codes "events") command.Events words
+meaning_by (Some name.Counts) words = without_options (codes "counts") command.Counts words
+meaning_by (Some name.Trace) words = answer_with command.Trace (turns_of words)
+meaning_by (Some name.Race) words = without_options (codes "race") command.Race words
+meaning_by (Some name.Profile) words = answer_with command.Profile (profile_options_of words)
+meaning_by (Some name.Uses) words = answer_with command.Uses (rigor_of words)
+meaning_by (Some name.Secrets) words = answer_with command.Secrets (secret_options_of words)
+meaning_by (Some name.Outcomes) words = answer_with command.Outcomes (outcomes_of words)
+meaning_by (Some name.Generate) words = answer_with command.Generate (generator_number_of words)
 
--- the command with its options that the words say, or why they say none; the words after `replay`
--- are judged by themselves
+-- the command with its options that the words say, or why they say none
 abbrev pub meaning_of : List Text → Result Command Refusal
 meaning_of [] = Err (refusal.Usage 1)
 meaning_of (word ∷ rest) = meaning_by (command_named word) (word ∷ rest)
@@ -130,26 +92,11 @@ HasValidOptions (command.Record options) = AreValid options
 HasValidOptions (command.Outcomes options) = AreOutcomeOptions options
 HasValidOptions _ = Unit {0}
 
--- the words of these commands are read by clap, which takes memory
+-- clap reads the words of a command, which takes memory, but not those of `replay`
 abbrev pub TakesMemory : Option Name → Type 0
-TakesMemory (Some name.Assemble) = Unit {0}
-TakesMemory (Some name.Convert) = Unit {0}
-TakesMemory (Some name.Disassemble) = Unit {0}
-TakesMemory (Some name.Map) = Unit {0}
-TakesMemory (Some name.Check) = Unit {0}
-TakesMemory (Some name.Run) = Unit {0}
-TakesMemory (Some name.Record) = Unit {0}
-TakesMemory (Some name.Migrate) = Unit {0}
-TakesMemory (Some name.Events) = Unit {0}
-TakesMemory (Some name.Counts) = Unit {0}
-TakesMemory (Some name.Trace) = Unit {0}
-TakesMemory (Some name.Race) = Unit {0}
-TakesMemory (Some name.Profile) = Unit {0}
-TakesMemory (Some name.Uses) = Unit {0}
-TakesMemory (Some name.Secrets) = Unit {0}
-TakesMemory (Some name.Outcomes) = Unit {0}
-TakesMemory (Some name.Generate) = Unit {0}
-TakesMemory _ = ⊥
+TakesMemory None = ⊥
+TakesMemory (Some name.Replay) = ⊥
+TakesMemory _ = Unit {0}
 
 -- the first word names a command whose words are read with memory
 abbrev pub MayWantMemory : List Text → Type 0

@@ -8,6 +8,12 @@ abbrev pub answer_with : {A B : Type 0} → (A → B) → Result A Refusal → R
 answer_with make (Ok answer) = Ok (make answer)
 answer_with make (Err r) = Err r
 
+-- what comes of an answer, or the same refusal
+abbrev pub and_then :
+    {A B : Type 0} → Result A Refusal → (A → Result B Refusal) → Result B Refusal
+and_then (Ok answer) rest = rest answer
+and_then (Err r) rest = Err r
+
 -- what was answered is the meaning, unless memory ran out
 abbrev pub Means : {A : Type 0} → Result A Refusal → Result A Refusal → Type 0
 Means (Err refusal.Memory) meant = Unit {0}

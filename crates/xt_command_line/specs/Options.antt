@@ -18,8 +18,10 @@ use Rattle.xt_map.specs.Regions.{region_of, is_executable}
 use Rattle.xt_trace.specs.Validity.{IsValid, most_turns}
 use Rattle.xt_trace.specs.declared.options.Stack.{Stack}
 use Rattle.xt_trace.specs.declared.options.Options.{Options}
+use Rattle.xt_command_line.specs.MeaningAnswers.{and_then}
 use Rattle.xt_command_line.specs.Numbers.{number_of}
-use Rattle.xt_command_line.specs.Simple.{rows_by}
+use Rattle.xt_command_line.specs.Parts.{colon}
+use Rattle.xt_command_line.specs.Simple.{matched_by}
 use Rattle.xt_command_line.specs.TurnOrders.{is_short, order_in}
 use Rattle.xt_command_line.specs.Requirements.{is_among, required_in}
 use Rattle.xt_command_line.specs.Secrets.{secrets_in}
@@ -49,19 +51,16 @@ with_option app name = with_rule app (option_rule name)
 abbrev pub with_flag : App → Text → App
 with_flag app name = with_rule app (flag_rule name)
 
--- [--turns0 N] [--turns1 N] [--entry1 N] [--vecbase N] [--stack0 LO:HI] [--stack1 LO:HI]
--- [--seed N] [--order LIST]
-abbrev pub order_names : List Text
-order_names = codes "seed" ∷ codes "order" ∷ []
-
--- the turns, and where what lies
+-- [--turns0 N] [--turns1 N] [--entry1 N] [--vecbase N] [--stack0 LO:HI] [--stack1 LO:HI]: the
+-- turns, and where what lies
 abbrev pub place_names : List Text
 place_names =
     codes "turns0" ∷ codes "turns1" ∷ codes "entry1"
     ∷ codes "vecbase" ∷ codes "stack0" ∷ codes "stack1" ∷ []
 
+-- these, and [--seed N] [--order LIST]
 abbrev pub option_names : List Text
-option_names = place_names ++ order_names
+option_names = place_names ++ codes "seed" ∷ codes "order" ∷ []
 
 -- these options and [--require LIST]
 abbrev pub required_app : Text → App
@@ -85,54 +84,11 @@ run_app = fold with_flag (fold with_option (required_app (codes "run")) list_nam
 
 -- ---- the texts of the options
 
-pub record Texts : Type 0 where
-  pub turns0 : Option Text
-  pub turns1 : Option Text
-  pub entry1 : Option Text
-  pub vecbase : Option Text
-  pub stack0 : Option Text
-  pub stack1 : Option Text
-  pub seed : Option Text
-  pub order : Option Text
-  pub require : Option Text
-  pub memory : Option Text
-  pub secret : Option Text
-  pub public : Option Text
-  pub trace : Bool
-  pub events : Bool
-  pub race : Bool
-  pub profile : Bool
-  pub uses : Bool
-
 -- a flag that was given has the text `true`
 abbrev pub is_set : Option Text → Bool
 is_set text = option_map_or (λ t. bytes_eq t (codes "true")) text false
 
-abbrev pub texts_of : List Row → Texts
-texts_of rows = record {
-  turns0 = first_of (codes "turns0") rows;
-  turns1 = first_of (codes "turns1") rows;
-  entry1 = first_of (codes "entry1") rows;
-  vecbase = first_of (codes "vecbase") rows;
-  stack0 = first_of (codes "stack0") rows;
-  stack1 = first_of (codes "stack1") rows;
-  seed = first_of (codes "seed") rows;
-  order = first_of (codes "order") rows;
-  require = first_of (codes "require") rows;
-  memory = first_of (codes "memory") rows;
-  secret = first_of (codes "secret") rows;
-  public = first_of (codes "public") rows;
-  trace = is_set (first_of (codes "trace") rows);
-  events = is_set (first_of (codes "events") rows);
-  race = is_set (first_of (codes "race") rows);
-  profile = is_set (first_of (codes "profile") rows);
-  uses = is_set (first_of (codes "uses") rows);
-}
-
 -- ---- the options that the texts say
-
-abbrev pub colon : ℕ
-colon = 58
 
 abbrev pub stack_between : Option ℕ → Option ℕ → Option Stack
 stack_between (Some lo) (Some hi) = Some (record { lo = lo; hi = hi })
@@ -155,12 +111,12 @@ abbrev pub given_number_of : Text → Option (Option ℕ)
 given_number_of text = option_map Some (number_of text)
 
 -- the options of these numbers and ranges, where each is there, with this order, these requirements
--- and these words of memory, and with the flags as they were given
+-- and these words of memory, and with the flags that were given
 abbrev pub options_from :
-    Texts → TurnOrder → Option (List Requirement) → Option (List Span) → Option ℕ → Option ℕ
+    List Row → TurnOrder → Option (List Requirement) → Option (List Span) → Option ℕ → Option ℕ
     → Option (Option ℕ) → Option ℕ → Option Stack → Option Stack → Option RunOptions
 options_from
-    t order required memory (Some turns0) (Some turns1) (Some entry1) (Some vecbase)
+    rows order required memory (Some turns0) (Some turns1) (Some entry1) (Some vecbase)
     (Some stack0) (Some stack1) =
     Some (record {
       turns0 = turns0;
@@ -170,28 +126,30 @@ options_from
       stack0 = stack0;
       stack1 = stack1;
       order = order;
-      trace = t.trace;
-      events = t.events;
-      race = t.race;
-      profile = t.profile;
-      uses = t.uses;
+      trace = is_set (first_of (codes "trace") rows);
+      events = is_set (first_of (codes "events") rows);
+      race = is_set (first_of (codes "race") rows);
+      profile = is_set (first_of (codes "profile") rows);
+      uses = is_set (first_of (codes "uses") rows);
       required = required;
       memory = memory;
       secrets = None;
     })
-options_from t order required memory _ _ _ _ _ _ = None
+options_from rows order required memory _ _ _ _ _ _ = None
 
 -- the options that the texts say, each with its default, and with these, or none where a text is no
 -- number or no range
 abbrev pub options_in :
-    Texts → TurnOrder → Option (List Requirement) → Option (List Span) → Option RunOptions
-options_in t order required memory = options_from t order required memory
-    (said_or number_of 100000 t.turns0)
-    (said_or number_of 100000 t.turns1)
-    (said_or given_number_of None t.entry1)
-    (said_or number_of 0x40080000 t.vecbase)
-    (said_or range_of (record { lo = 0x3FFF0000; hi = 0x3FFF8000 }) t.stack0)
-    (said_or range_of (record { lo = 0x3FFF8000; hi = 0x40000000 }) t.stack1)
+    List Row → TurnOrder → Option (List Requirement) → Option (List Span) → Option RunOptions
+options_in rows order required memory = options_from rows order required memory
+    (said_or number_of 100000 (first_of (codes "turns0") rows))
+    (said_or number_of 100000 (first_of (codes "turns1") rows))
+    (said_or given_number_of None (first_of (codes "entry1") rows))
+    (said_or number_of 0x40080000 (first_of (codes "vecbase") rows))
+    (said_or range_of (record { lo = 0x3FFF0000; hi = 0x3FFF8000 })
+    (first_of (codes "stack0") rows))
+    (said_or range_of (record { lo = 0x3FFF8000; hi = 0x40000000 })
+    (first_of (codes "stack1") rows))
 
 -- ---- the rules of usage that options break
 
@@ -231,16 +189,13 @@ abbrev pub options_or_refusal : Option RunOptions → Result RunOptions Refusal
 options_or_refusal None = Err (refusal.Usage 4)
 options_or_refusal (Some o) = within_limits o
 
--- the options that the texts say with the lists that they say, or the first rule of usage that they
--- break
-abbrev pub judged_with :
-    Texts → Result TurnOrder Refusal → Result (Option (List Requirement)) Refusal
-    → Result (Option (List Span)) Refusal → Result RunOptions Refusal
-judged_with t (Err r) required memory = Err r
-judged_with t (Ok order) (Err r) memory = Err r
-judged_with t (Ok order) (Ok required) (Err r) = Err r
-judged_with t (Ok order) (Ok required) (Ok memory) =
-    options_or_refusal (options_in t order required memory)
+-- the options that the texts say, but for what is secret, or the first rule that they break
+abbrev pub options_without_secrets : List Row → Result RunOptions Refusal
+options_without_secrets rows =
+    and_then (order_in (first_of (codes "seed") rows) (first_of (codes "order") rows)) (λ order.
+    and_then (required_in (first_of (codes "require") rows)) (λ required.
+    and_then (shown_in (first_of (codes "memory") rows)) (λ memory.
+    options_or_refusal (options_in rows order required memory))))
 
 -- ---- what is secret
 
@@ -258,31 +213,21 @@ options_with o secrets =
     if is_none secrets && are_secrets_required o.required then Err (refusal.Usage 10)
     else Ok (keeping o secrets)
 
-abbrev pub with_secrets :
-    Result RunOptions Refusal → Result (Option SecretOptions) Refusal → Result RunOptions Refusal
-with_secrets (Err r) secrets = Err r
-with_secrets (Ok o) (Err r) = Err r
-with_secrets (Ok o) (Ok secrets) = options_with o secrets
-
-abbrev pub judged_texts : Texts → Result RunOptions Refusal
-judged_texts t =
-    with_secrets
-    (judged_with t (order_in t.seed t.order) (required_in t.require) (shown_in t.memory))
-    (secrets_in t.secret t.public)
+abbrev pub judged_texts : List Row → Result RunOptions Refusal
+judged_texts rows =
+    and_then (options_without_secrets rows) (λ options.
+    and_then (secrets_in (first_of (codes "secret") rows) (first_of (codes "public") rows))
+    (options_with options))
 
 -- ---- the meaning of the words
 
-abbrev pub by_rows : Option (List Row) → Result RunOptions Refusal
-by_rows None = Err (refusal.Usage 3)
-by_rows (Some rows) = judged_texts (texts_of rows)
-
 -- the options that the words of `run` say, or the first rule of usage that they break
 abbrev pub run_options_of : List Text → Result RunOptions Refusal
-run_options_of words = by_rows (rows_by run_app words)
+run_options_of words = and_then (matched_by run_app words) judged_texts
 
 -- the same of `record`
 abbrev pub record_options_of : List Text → Result RunOptions Refusal
-record_options_of words = by_rows (rows_by record_app words)
+record_options_of words = and_then (matched_by record_app words) judged_texts
 
 -- ---- the options of a run
 

@@ -1,10 +1,10 @@
 -- What the words require of a run ('profile'). A text is the list of its bytes.
 use Rattle.std.specs.Prelude.{ℕ, Bool, ◌==◌, List, [], ◌∷◌, ◌++◌, Option, Some, None, Result, Ok}
-use Rattle.std.specs.Prelude.{Err, if◌then◌else◌, codes}
+use Rattle.std.specs.Prelude.{if◌then◌else◌, codes, ok_or, option_map}
 use Rattle.std.specs.List.{list_any, slice_split}
 use Rattle.std.specs.Str.{bytes_eq}
 use Rattle.clap.specs.Words.{Text}
-use Rattle.xt_command_line.specs.TurnOrders.{comma}
+use Rattle.xt_command_line.specs.Parts.{comma}
 use Rattle.xt_command_line.specs.declared.command.Refusal.{Refusal}
 use Rattle.xt_command_line.specs.declared.command.Refusal.TheVariants as refusal
 use Rattle.xt_command_line.specs.declared.requirements.Requirement.{Requirement}
@@ -47,12 +47,7 @@ all_from (Some list) (text ∷ texts) = all_from (with_requirement list (require
 abbrev pub requirements_in : Text → Option (List Requirement)
 requirements_in text = all_from (Some []) (slice_split (λ b. b == comma) text)
 
-abbrev pub requirements_or_refusal :
-    Option (List Requirement) → Result (Option (List Requirement)) Refusal
-requirements_or_refusal None = Err (refusal.Usage 4)
-requirements_or_refusal (Some list) = Ok (Some list)
-
 -- by the text of `--require`
 abbrev pub required_in : Option Text → Result (Option (List Requirement)) Refusal
 required_in None = Ok None
-required_in (Some text) = requirements_or_refusal (requirements_in text)
+required_in (Some text) = ok_or (option_map Some (requirements_in text)) (refusal.Usage 4)

@@ -1,15 +1,15 @@
--- Which bytes of memory are secret and which public, by the words ('profile'). A text is the list of
--- its bytes.
+-- Which bytes of memory are secret and which public, by the words ('profile'). A text is the list
+-- of its bytes.
 --
--- Profile: a range lies whole in one region of memory. Constant memory is none: each image has its own,
--- so that another secret there would be another program.
-use Rattle.std.specs.Prelude.{ℕ, ◌+◌, Bool, ◌&&◌, nat_le, List, [], ◌∷◌, Option, Some, None}
+-- Profile: a range lies whole in one region of memory. Constant memory is none: each image has its
+-- own, so that another secret there would be another program.
+use Rattle.std.specs.Prelude.{ℕ, ◌+◌, Bool, ◌&&◌, nat_le, List, [], Option, Some, None}
 use Rattle.std.specs.Prelude.{option_and_then, Result, Ok, Err, if◌then◌else◌}
 use Rattle.std.specs.List.{list_any}
 use Rattle.clap.specs.Words.{Text}
 use Rattle.xt_map.specs.Regions.{Range, is_memory, ranges}
+use Rattle.xt_command_line.specs.Parts.{all_said}
 use Rattle.xt_command_line.specs.Spans.{spans_in}
-use Rattle.xt_command_line.specs.TurnOrders.{and_all}
 use Rattle.xt_command_line.specs.declared.command.Refusal.{Refusal}
 use Rattle.xt_command_line.specs.declared.command.Refusal.TheVariants as refusal
 use Rattle.xt_command_line.specs.declared.secrets.SecretOptions.{SecretOptions}
@@ -28,14 +28,9 @@ is_range s = nat_le 1 s.count && list_any (holds_bytes s) ranges
 unfoldable pub range_of : Span → Option (ℕ × ℕ)
 range_of s = if is_range s then Some (s.addr, s.count) else None
 
--- the bytes in these places, if each is a range
-abbrev pub ranges_from : List Span → Option (List (ℕ × ℕ))
-ranges_from [] = Some []
-ranges_from (s ∷ rest) = and_all (range_of s) (ranges_from rest)
-
--- the bytes that a text lists
+-- the bytes that a text lists, if each place is a range
 abbrev pub ranges_in : Text → Option (List (ℕ × ℕ))
-ranges_in text = option_and_then ranges_from (spans_in text)
+ranges_in text = option_and_then (all_said range_of) (spans_in text)
 
 -- without a text there are none
 abbrev pub public_in : Option Text → Option (List (ℕ × ℕ))

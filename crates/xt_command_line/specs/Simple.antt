@@ -1,7 +1,7 @@
 -- What a simple command of clap matches on words. The first word stands where clap expects the
 -- program's name.
 -- Source: the definition of a simple command that the crate clap has.
-use Rattle.std.specs.Prelude.{◌≡◌, List, [], ◌∷◌, Option, Some, None, Result, Ok, Err}
+use Rattle.std.specs.Prelude.{◌≡◌, List, [], ◌∷◌, Option, Some, None, Result, Ok, Err, ok_or}
 use Rattle.clap.specs.Words.{App, Row, Text, fault_of, matches_of}
 use Rattle.clap.specs.Kinds.{Kinds}
 use Rattle.xt_command_line.specs.declared.command.Refusal.{Refusal}
@@ -15,6 +15,10 @@ rows_without (kind ∷ kinds) rows = None
 -- what a simple command matches on the words, or nothing where it gives no matches
 unfoldable pub rows_by : App → List Text → Option (List Row)
 rows_by app words = rows_without (fault_of app words) (matches_of app words)
+
+-- that, or the rule of usage that words break which do not match
+abbrev pub matched_by : App → List Text → Result (List Row) Refusal
+matched_by app words = ok_or (rows_by app words) (refusal.Usage 3)
 
 -- a refusal says that there are no matches, unless memory ran out
 abbrev pub Refuses : Refusal → Option (List Row) → Type 0

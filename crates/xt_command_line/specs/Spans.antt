@@ -1,17 +1,14 @@
 -- Places of memory that words list, and which words of memory are shown at the end of a run
 -- ('profile'). A text is the list of its bytes.
-use Rattle.std.specs.Prelude.{ℕ, Bool, ◌==◌, nat_le, List, [], ◌∷◌, length, Option, Some, None}
-use Rattle.std.specs.Prelude.{Result, Ok, Err, if◌then◌else◌}
+use Rattle.std.specs.Prelude.{ℕ, Bool, ◌==◌, nat_le, List, length, Option, Some, None, Result}
+use Rattle.std.specs.Prelude.{Ok, if◌then◌else◌, ok_or, option_map}
 use Rattle.std.specs.List.{before_first, after_first, list_all, slice_split}
 use Rattle.clap.specs.Words.{Text}
 use Rattle.xt_command_line.specs.Numbers.{number_of}
-use Rattle.xt_command_line.specs.TurnOrders.{comma}
+use Rattle.xt_command_line.specs.Parts.{all_said, colon, comma, passing}
 use Rattle.xt_command_line.specs.declared.command.Refusal.{Refusal}
 use Rattle.xt_command_line.specs.declared.command.Refusal.TheVariants as refusal
 use Rattle.xt_command_line.specs.declared.spans.Span.{Span}
-
-abbrev pub colon : ℕ
-colon = 58
 
 -- so many from an address on
 abbrev pub span_by : Option ℕ → Option ℕ → Option Span
@@ -26,18 +23,8 @@ span_of text =
     (number_of (before_first (λ b. b == colon) text))
     (number_of (after_first (λ b. b == colon) text))
 
-abbrev pub and_all : Option Span → Option (List Span) → Option (List Span)
-and_all (Some s) (Some ss) = Some (s ∷ ss)
-and_all (Some s) None = None
-and_all None ss = None
-
--- the spans of these texts, where each says one
-abbrev pub all_spans : List Text → Option (List Span)
-all_spans [] = Some []
-all_spans (text ∷ texts) = and_all (span_of text) (all_spans texts)
-
 abbrev pub at_most_four : List Text → Option (List Span)
-at_most_four texts = if nat_le (length texts) 4 then all_spans texts else None
+at_most_four texts = if nat_le (length texts) 4 then all_said span_of texts else None
 
 -- the spans that a text lists, with commas between them
 abbrev pub spans_in : Text → Option (List Span)
@@ -49,12 +36,8 @@ spans_in text = at_most_four (slice_split (λ b. b == comma) text)
 abbrev pub are_small : List Span → Bool
 are_small spans = list_all (λ s. nat_le s.count 64) spans
 
-abbrev pub spans_or_refusal : Option (List Span) → Result (Option (List Span)) Refusal
-spans_or_refusal None = Err (refusal.Usage 4)
-spans_or_refusal (Some list) =
-    if are_small list then Ok (Some list) else Err (refusal.Usage 4)
-
 -- by the text of `--memory`
 abbrev pub shown_in : Option Text → Result (Option (List Span)) Refusal
 shown_in None = Ok None
-shown_in (Some text) = spans_or_refusal (spans_in text)
+shown_in (Some text) =
+    ok_or (option_map Some (passing are_small (spans_in text))) (refusal.Usage 4)

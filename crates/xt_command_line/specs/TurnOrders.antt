@@ -4,9 +4,11 @@
 -- `cores_of` the list of cores that it stands for, whose run `xt_machine` defines (`run_of_list`).
 use Rattle.std.specs.Prelude.{ℕ, ◌+◌, Bool, true, ◌==◌, nat_le, List, [], ◌∷◌, ◌++◌, length}
 use Rattle.std.specs.Prelude.{replicate, Option, Some, None, Result, Ok, Err, if◌then◌else◌}
-use Rattle.std.specs.List.{before_first, after_first, slice_split}
+use Rattle.std.specs.Prelude.{ok_or, option_map}
+use Rattle.std.specs.List.{before_first, after_first}
 use Rattle.clap.specs.Words.{Text}
 use Rattle.xt_command_line.specs.Numbers.{number_of}
+use Rattle.xt_command_line.specs.Parts.{parts_said}
 use Rattle.xt_command_line.specs.declared.command.Refusal.{Refusal}
 use Rattle.xt_command_line.specs.declared.command.Refusal.TheVariants as refusal
 use Rattle.xt_command_line.specs.declared.turn_orders.CoreTurns.{CoreTurns}
@@ -17,15 +19,8 @@ use Rattle.xt_command_line.specs.declared.turn_orders.Which.TheVariants as which
 
 -- ---- the order that a text lists: C*N,C*N,..
 
-abbrev pub comma : ℕ
-comma = 44
-
 abbrev pub star : ℕ
 star = 42
-
--- the most bytes of such a text
-abbrev pub most_bytes : ℕ
-most_bytes = 65536
 
 abbrev pub core_at : Option ℕ → Option Which
 core_at None = None
@@ -47,39 +42,17 @@ turns_of text =
     (core_of (before_first (λ b. b == star) text))
     (number_of (after_first (λ b. b == star) text))
 
--- one more at the front, where each is there
-abbrev pub and_all : {A : Type 0} → Option A → Option (List A) → Option (List A)
-and_all (Some t) (Some ts) = Some (t ∷ ts)
-and_all (Some t) None = None
-and_all None ts = None
-
--- the turns of these texts, where each says some
-abbrev pub all_turns : List Text → Option (List CoreTurns)
-all_turns [] = Some []
-all_turns (text ∷ texts) = and_all (turns_of text) (all_turns texts)
-
--- the turns that a text lists, with commas between them
+-- the turns that a text of at most 65,536 bytes lists, with commas between them
 unfoldable pub turns_in : Text → Option (List CoreTurns)
-turns_in text =
-    if nat_le (length text) most_bytes
-    then all_turns (slice_split (λ b. b == comma) text) else None
+turns_in text = if nat_le (length text) 65536 then parts_said turns_of text else None
 
 -- ---- the order that the words ask for
-
--- the order of a seed, which has to be a number
-abbrev pub order_of_seed : Option ℕ → Result TurnOrder Refusal
-order_of_seed None = Err (refusal.Usage 4)
-order_of_seed (Some seed) = Ok (order.Seeded seed)
-
-abbrev pub listed_order : Option (List CoreTurns) → Result TurnOrder Refusal
-listed_order None = Err (refusal.Usage 4)
-listed_order (Some turns) = Ok (order.Listed turns)
 
 -- by the texts of `--seed` and `--order`, which do not stand together
 abbrev pub order_in : Option Text → Option Text → Result TurnOrder Refusal
 order_in None None = Ok order.Free
-order_in (Some seed) None = order_of_seed (number_of seed)
-order_in None (Some list) = listed_order (turns_in list)
+order_in (Some seed) None = ok_or (option_map order.Seeded (number_of seed)) (refusal.Usage 4)
+order_in None (Some list) = ok_or (option_map order.Listed (turns_in list)) (refusal.Usage 4)
 order_in (Some seed) (Some list) = Err (refusal.Usage 3)
 
 -- ---- the turns that an order asks for
@@ -93,9 +66,8 @@ abbrev pub are_few : List CoreTurns → Bool
 are_few turns = nat_le (turns_asked turns) 8000000
 
 abbrev pub is_short : TurnOrder → Bool
-is_short order.Free = true
-is_short (order.Seeded seed) = true
 is_short (order.Listed turns) = are_few turns
+is_short _ = true
 
 -- ---- the list of cores that it stands for
 

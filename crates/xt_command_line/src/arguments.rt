@@ -1,8 +1,10 @@
 //! The words of `check`, `gen`, `replay`, `uses` and `secrets`.
-ghost use Rattle.std.specs.Prelude.{◌≡◌, IfOk, map, string_bytes, option_map};
+ghost use Rattle.std.specs.Prelude.{◌≡◌, IfOk, map, string_bytes, ok_or, option_and_then, option_map};
 ghost use Rattle.xt_command_line.specs.MeaningAnswers.{Means, MeansAs};
-ghost use Rattle.xt_command_line.specs.Arguments.{IsVecbase, generator_number_of, judged_number, judged_vecbase, needed_secrets, number_in, rigor_of, script_text_of, secret_options_of, secrets_app, uses_app, vecbase_of};
+ghost use Rattle.xt_command_line.specs.Arguments.{IsVecbase, generator_number_of, judged_vecbase, rigor_of, script_text_of, secret_options_of, secrets_app, uses_app, vecbase_of};
+ghost use Rattle.xt_command_line.specs.Numbers.{number_of};
 ghost use Rattle.xt_command_line.specs.Simple.{Matches, rows_by};
+ghost use Rattle.xt_command_line.specs.declared.command.Refusal.TheVariants.{Usage};
 
 use crate::command::{Refusal, Rigor};
 use crate::numbers::number;
@@ -42,7 +44,7 @@ pub fn check_vecbase(alloc: Global, words: &[String]) -> Result<u32, Refusal>
 
 // The number of a text.
 fn number_from(text: Option<&str>) -> Result<u32, Refusal>
-    ensures { result ≡ judged_number (number_in (option_map (λ t. t.now) text.entry)) }
+    ensures { result ≡ ok_or (option_and_then number_of (option_map (λ t. t.now) text.entry)) (Usage 4) }
 {
     match text {
         Some(text) => number(text).ok_or(Refusal::Usage(4)),
@@ -97,7 +99,7 @@ pub fn uses_rigor(alloc: Global, words: &[String]) -> Result<Rigor, Refusal>
 
 // What is secret, which has to be said.
 fn needed_secrets(secrets: Option<SecretOptions>) -> Result<SecretOptions, Refusal>
-    ensures { result ≡ needed_secrets secrets }
+    ensures { result ≡ ok_or secrets (Usage 10) }
 {
     match secrets {
         Some(secrets) => Ok(secrets),

@@ -33,7 +33,7 @@ pub use listings::listing;
 pub use numbers::number;
 pub use option_words::{DEFAULT_VECBASE, record_options, run_options};
 pub use options::{MOST_TURNS, RunOptions, within_limits};
-pub use outcomes::{OutcomeOptions, outcomes_options};
+pub use outcomes::{OutcomeOptions, Shown, outcomes_options};
 pub use requirements::{Requirement, Requirements};
 pub use roots::{Addresses, addresses_in};
 pub use secrets::{ByteRanges, SecretOptions};

@@ -1,30 +1,15 @@
 //! The simple commands of `clap` that read the words of the command line.
-ghost use Rattle.std.specs.Prelude.{◌≡◌, true, IfOk, map, string_bytes};
+ghost use Rattle.std.specs.Prelude.{◌≡◌, true, map, string_bytes};
 ghost use Rattle.clap.specs.Words.{is_simple_and_free};
 ghost use Rattle.xt_command_line.specs.Forms.{app_with};
 ghost use Rattle.xt_command_line.specs.Simple.{Matches, rows_by};
 
 use crate::command::Refusal;
 use crate::simple::{Form, Matched, Parser};
-use std::alloc::{AllocError, Global};
+use std::alloc::Global;
 
 /// The arguments of `replay`.
 pub const REPLAY: [(Form, &str); 2] = [(Form::Positional, "script"), (Form::Flag, "lenient")];
-
-// The command of this name with these arguments.
-fn command_with<'a>(
-    alloc: Global,
-    name: &'a str,
-    arguments: &[(Form, &'a str)],
-) -> Result<Parser<'a>, AllocError>
-    ensures { IfOk result (λ c. c ≡ app_with name.entry.now arguments.now) }
-{
-    let mut command = Parser::new(alloc, name);
-    for one in arguments {
-        command = command.with(alloc, one.0, one.1)?;
-    }
-    Ok(command)
-}
 
 /// What `clap` matches on the words of a command of this name with these arguments.
 pub fn matches_for<'a>(
@@ -36,5 +21,9 @@ pub fn matches_for<'a>(
     requires { is_simple_and_free (app_with name.now arguments.now) ≡ true }
     ensures { Matches result (rows_by (app_with name.entry.now arguments.now) (map string_bytes words.now)) }
 {
-    command_with(alloc, name, arguments)?.matches(words)
+    let mut command = Parser::new(alloc, name);
+    for one in arguments {
+        command = command.with(alloc, one.0, one.1)?;
+    }
+    command.matches(words)
 }

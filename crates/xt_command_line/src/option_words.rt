@@ -2,11 +2,8 @@
 ghost use Rattle.std.specs.Prelude.{◌≡◌, IfOk, map, string_bytes, option_map};
 ghost use Rattle.xt_command_line.specs.MeaningAnswers.{Means};
 ghost use Rattle.xt_command_line.specs.Numbers.{number_of};
-ghost use Rattle.xt_command_line.specs.Options.{AreValid, are_secrets_required, stack_between, given_number_of, options_or_refusal, options_in, options_with, range_of, record_app, record_options_of, run_app, run_options_of, said_or, judged_texts, judged_with, texts_of};
-ghost use Rattle.xt_command_line.specs.Requirements.{required_in};
+ghost use Rattle.xt_command_line.specs.Options.{AreValid, are_secrets_required, stack_between, given_number_of, options_or_refusal, options_in, options_with, options_without_secrets, range_of, record_app, record_options_of, run_app, run_options_of, said_or, judged_texts};
 ghost use Rattle.xt_command_line.specs.Simple.{Matches, rows_by};
-ghost use Rattle.xt_command_line.specs.Spans.{shown_in};
-ghost use Rattle.xt_command_line.specs.TurnOrders.{order_in};
 
 use crate::command::Refusal;
 use crate::numbers::number;
@@ -127,7 +124,7 @@ fn options_from(
     required: Option<Requirements>,
     memory: Option<Spans>,
 ) -> Option<RunOptions>
-    ensures { result ≡ options_in (texts_of matches.now) order required memory }
+    ensures { result ≡ options_in matches.now order required memory }
 {
     match (
         number_or(matches.text("turns0"), 100_000),
@@ -197,8 +194,7 @@ fn options_or_refusal(options: Option<RunOptions>) -> Result<RunOptions, Refusal
 
 // The options that the texts say but for what is secret, or the first rule of usage that they break.
 fn options_without_secrets(alloc: Global, matches: &Matched<'_>) -> Result<RunOptions, Refusal>
-    ensures means { let t = texts_of matches.now in
-        Means result (judged_with t (order_in t.seed t.order) (required_in t.require) (shown_in t.memory)) }
+    ensures means { Means result (options_without_secrets matches.now) }
     ensures valid { IfOk result AreValid }
 {
     let order = order_in(alloc, matches.text("seed"), matches.text("order"))?;
@@ -209,7 +205,7 @@ fn options_without_secrets(alloc: Global, matches: &Matched<'_>) -> Result<RunOp
 
 /// The options that the texts say, or the first rule of usage that they break.
 pub fn judged_texts(alloc: Global, matches: &Matched<'_>) -> Result<RunOptions, Refusal>
-    ensures means { Means result (judged_texts (texts_of matches.now)) }
+    ensures means { Means result (judged_texts matches.now) }
     ensures valid { IfOk result AreValid }
 {
     let options = options_without_secrets(alloc, matches)?;

@@ -1,7 +1,9 @@
 //! Addresses that words list, and where else a listing follows the code from, as the words of `dis` say it.
 ghost use Rattle.std.specs.Prelude.{◌≡◌, [], IfOk, map, option_map};
 ghost use Rattle.xt_command_line.specs.Options.{said_or};
-ghost use Rattle.xt_command_line.specs.Roots.{all_numbers, roots_of};
+ghost use Rattle.xt_command_line.specs.Numbers.{number_of};
+ghost use Rattle.xt_command_line.specs.Parts.{all_said};
+ghost use Rattle.xt_command_line.specs.Roots.{roots_of};
 
 use crate::numbers::number;
 use crate::turn_orders::parts_in;
@@ -40,7 +42,7 @@ impl Addresses {
 
 // The numbers of these texts, each of which has to say one.
 fn all_numbers(alloc: Global, parts: &[&str]) -> Result<Option<Addresses>, AllocError>
-    ensures { IfOk result (λ list. list ≡ all_numbers (map (λ part. part.now) parts.now)) }
+    ensures { IfOk result (λ list. list ≡ all_said number_of (map (λ part. part.now) parts.now)) }
 {
     let mut numbers = Vec::new(alloc);
     for part in parts {

@@ -2,7 +2,8 @@
 ghost use Rattle.std.specs.Prelude.{◌≡◌, ◌&&◌, IfOk, nat_le, option_map};
 ghost use Rattle.std.specs.List.{list_any};
 ghost use Rattle.xt_command_line.specs.MeaningAnswers.{Means};
-ghost use Rattle.xt_command_line.specs.Secrets.{is_range, public_in, range_of, ranges_from, ranges_in, secrets_by, secrets_in};
+ghost use Rattle.xt_command_line.specs.Parts.{all_said};
+ghost use Rattle.xt_command_line.specs.Secrets.{is_range, public_in, range_of, ranges_in, secrets_by, secrets_in};
 
 use crate::command::Refusal;
 use crate::spans::{Span, spans_in};
@@ -83,7 +84,7 @@ fn range_of(span: Span) -> Option<(u32, u32)>
 
 // The bytes in these places, each of which has to be a range of memory.
 fn ranges_from(alloc: Global, spans: &[Span]) -> Result<Option<ByteRanges>, AllocError>
-    ensures { IfOk result (λ list. list ≡ ranges_from spans.now) }
+    ensures { IfOk result (λ list. list ≡ all_said range_of spans.now) }
 {
     let mut ranges = Vec::new(alloc);
     for span in spans {

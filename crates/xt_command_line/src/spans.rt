@@ -1,7 +1,8 @@
 //! Places of memory that the words list, and which words of memory are shown at the end of a run.
 ghost use Rattle.std.specs.Prelude.{◌≡◌, IfOk, map, option_map};
 ghost use Rattle.xt_command_line.specs.MeaningAnswers.{Means};
-ghost use Rattle.xt_command_line.specs.Spans.{all_spans, are_small, at_most_four, shown_in, span_by, span_of, spans_in};
+ghost use Rattle.xt_command_line.specs.Parts.{all_said};
+ghost use Rattle.xt_command_line.specs.Spans.{are_small, at_most_four, shown_in, span_by, span_of, spans_in};
 
 use crate::command::Refusal;
 use crate::numbers::number;
@@ -71,7 +72,7 @@ fn span_of(text: &str) -> Option<Span>
 
 // The places of these texts, each of which has to say one.
 fn all_spans(alloc: Global, parts: &[&str]) -> Result<Option<Spans>, AllocError>
-    ensures { IfOk result (λ list. list ≡ all_spans (map (λ part. part.now) parts.now)) }
+    ensures { IfOk result (λ list. list ≡ all_said span_of (map (λ part. part.now) parts.now)) }
 {
     let mut spans = Vec::new(alloc);
     for part in parts {

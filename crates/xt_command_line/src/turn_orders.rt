@@ -3,7 +3,8 @@ ghost use Rattle.std.specs.Prelude.{◌≡◌, ◌<◌, ◌==◌, All, IfOk, map
 ghost use Rattle.std.specs.List.{slice_split};
 ghost use Rattle.xt_command_line.specs.MeaningAnswers.{Means};
 ghost use Rattle.xt_command_line.specs.Numbers.{number_of};
-ghost use Rattle.xt_command_line.specs.TurnOrders.{all_turns, are_few, core_of, cores_of, is_short, number_of_core, order_in, order_of_seed, turns_by, turns_in, turns_of};
+ghost use Rattle.xt_command_line.specs.Parts.{all_said};
+ghost use Rattle.xt_command_line.specs.TurnOrders.{are_few, core_of, cores_of, is_short, number_of_core, order_in, turns_by, turns_in, turns_of};
 
 use crate::command::Refusal;
 use crate::numbers::number;
@@ -127,7 +128,7 @@ pub fn parts_in<'a>(alloc: Global, text: &'a str) -> Result<Vec<&'a str>, AllocE
 
 // The turns of these texts, each of which has to say some.
 fn all_turns(alloc: Global, parts: &[&str]) -> Result<Option<TurnList>, AllocError>
-    ensures { IfOk result (λ list. list ≡ all_turns (map (λ part. part.now) parts.now)) }
+    ensures { IfOk result (λ list. list ≡ all_said turns_of (map (λ part. part.now) parts.now)) }
 {
     let mut turns = Vec::new(alloc);
     for part in parts {
@@ -151,16 +152,6 @@ fn turns_in(alloc: Global, text: &str) -> Result<Option<TurnList>, AllocError>
     all_turns(alloc, &parts)
 }
 
-// The order of a seed.
-fn order_of_seed(seed: Option<u32>) -> Result<TurnOrder, Refusal>
-    ensures { result ≡ order_of_seed seed }
-{
-    match seed {
-        Some(seed) => Ok(TurnOrder::Seeded(seed)),
-        None => Err(Refusal::Usage(4)),
-    }
-}
-
 /// The order that the texts of `--seed` and `--order` ask for, of which one at most may be there.
 ///
 /// `Usage(3)` says that both are there, `Usage(4)` that the seed is no number or the other text no order: parts `C*N`
@@ -171,7 +162,10 @@ pub fn order_in(alloc: Global, seed: Option<&str>, list: Option<&str>) -> Result
 {
     match (seed, list) {
         (None, None) => Ok(TurnOrder::Free),
-        (Some(seed), None) => order_of_seed(number(seed)),
+        (Some(seed), None) => match number(seed) {
+            Some(seed) => Ok(TurnOrder::Seeded(seed)),
+            None => Err(Refusal::Usage(4)),
+        },
         (None, Some(list)) => match turns_in(alloc, list)? {
             Some(turns) => Ok(TurnOrder::Listed(turns)),
             None => Err(Refusal::Usage(4)),

@@ -1,8 +1,7 @@
 ghost use Rattle.std.specs.Prelude.{◌≡◌, Err, IfOk, Some, map, string_bytes, true};
 ghost use Rattle.clap.specs.Words.{is_simple_and_free, new_app};
 ghost use Rattle.xt_command_line.specs.MeaningAnswers.{Means};
-ghost use Rattle.xt_command_line.specs.Meaning.{HasValidOptions, MayWantMemory, TakesMemory, check_meaning_of, dis_meaning_of, gen_meaning_of, meaning_by, meaning_of, command_named, name_in, outcomes_meaning_of, profile_meaning_of, record_meaning_of, run_meaning_of, secrets_meaning_of, trace_meaning_of, uses_meaning_of, without_options};
-ghost use Rattle.xt_command_line.specs.Simple.{rows_by};
+ghost use Rattle.xt_command_line.specs.Meaning.{HasValidOptions, MayWantMemory, TakesMemory, meaning_by, meaning_of, command_named, name_in, without_options};
 ghost use Rattle.xt_command_line.specs.declared.command.Refusal.TheVariants.{Memory};
 
 use crate::arguments::{check_vecbase, generator_number, secret_options, uses_rigor};
@@ -64,7 +63,7 @@ fn without_options<'a, T: Drop>(
     words: &'a [String],
 ) -> Result<T, Refusal>
     requires { is_simple_and_free (new_app name.now) ≡ true }
-    ensures means { Means result (without_options answer (rows_by (new_app name.now) (map string_bytes words.now))) }
+    ensures means { Means result (without_options name.now answer (map string_bytes words.now)) }
     ensures same { IfOk result (λ a. a ≡ answer) }
 {
     matches_for(alloc, name, &[], words)?;

@@ -1,7 +1,8 @@
 -- The commands of texts, one after another.
 use Rattle.std.proofs.Common.{◌≡◌, Option, Some, None, List, [], ◌∷◌, ◌++◌, refl, sym, ap}
 use mathlib.Core.List.{append_assoc, append-nil}
-use Rattle.xt_debug.specs.Grammar.{and_all, commands_of}
+use Rattle.xt_command_line.specs.Parts.{and_all}
+use Rattle.xt_debug.specs.Grammar.{commands_of}
 use Rattle.xt_debug.specs.declared.script.Command.{Command}
 
 -- commands that were read, before what follows

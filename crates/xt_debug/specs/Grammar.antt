@@ -7,6 +7,7 @@ use Rattle.std.specs.List.{list_all, slice_split}
 use Rattle.std.specs.Option.{option_map}
 use Rattle.std.specs.Str.{bytes_eq}
 use Rattle.xt_command_line.specs.Numbers.{number_of}
+use Rattle.xt_command_line.specs.Parts.{all_said, passing}
 use Rattle.xt_command_line.specs.Roots.{roots_of}
 use Rattle.xt_debug.specs.declared.script.Command.{Command}
 use Rattle.xt_debug.specs.declared.script.Command.TheVariants as command
@@ -16,27 +17,22 @@ use Rattle.xt_debug.specs.declared.targets.Target.TheVariants as target
 
 -- ---- operands
 
-abbrev pub at_most : ℕ → Option ℕ → Option ℕ
-at_most most None = None
-at_most most (Some n) = if nat_le n most then Some n else None
-
 -- a core is any number of value 0 or 1
 unfoldable pub core_of : List ℕ → Option ℕ
-core_of word = at_most 1 (number_of word)
+core_of word = passing (λ n. nat_le n 1) (number_of word)
 
 -- the most bytes that `mem` prints, and words that `words` does
 abbrev pub most_shown : ℕ
 most_shown = 64
 
 unfoldable pub count_of : List ℕ → Option ℕ
-count_of word = at_most most_shown (number_of word)
+count_of word = passing (λ n. nat_le n most_shown) (number_of word)
 
 -- ---- commands
 
 abbrev pub with_both : {B C : Type 0} → (ℕ → B → C) → Option ℕ → Option B → Option C
 with_both make (Some a) (Some b) = Some (make a b)
-with_both make (Some a) None = None
-with_both make None second = None
+with_both make _ _ = None
 
 -- a command without an operand
 unfoldable pub command_of_none : List ℕ → Option Command
@@ -99,11 +95,10 @@ command_of_two name first second =
     else command_of_numbers name first second
 
 abbrev pub command_of_words : List (List ℕ) → Option Command
-command_of_words [] = None
 command_of_words (name ∷ []) = command_of_none name
 command_of_words (name ∷ word ∷ []) = command_of_one name word
 command_of_words (name ∷ first ∷ second ∷ []) = command_of_two name first second
-command_of_words (name ∷ first ∷ second ∷ third ∷ more) = None
+command_of_words _ = None
 
 -- ---- texts
 
@@ -111,15 +106,9 @@ command_of_words (name ∷ first ∷ second ∷ third ∷ more) = None
 abbrev pub words_of : List ℕ → List (List ℕ)
 words_of text = filter (λ word. nat_lt 0 (length word)) (slice_split (λ byte. byte == 32) text)
 
-abbrev pub and_all : Option Command → Option (List Command) → Option (List Command)
-and_all (Some c) (Some cs) = Some (c ∷ cs)
-and_all (Some c) None = None
-and_all None cs = None
-
 -- the commands of these texts, where each is one
 abbrev pub commands_of : List (List ℕ) → Option (List Command)
-commands_of [] = Some []
-commands_of (text ∷ texts) = and_all (command_of_words (words_of text)) (commands_of texts)
+commands_of texts = all_said (λ text. command_of_words (words_of text)) texts
 
 -- The script that a text is: no command in a text of no bytes but spaces; else each part between
 -- semicolons is a command.
@@ -147,8 +136,4 @@ IsInRange (command.Frames c) = c < 2
 IsInRange (command.Calls c) = c < 2
 IsInRange (command.Mem addr n) = n ≤ most_shown
 IsInRange (command.Words addr n) = n ≤ most_shown
-IsInRange command.End = Unit {0}
-IsInRange (command.Next n) = Unit {0}
-IsInRange (command.Back n) = Unit {0}
-IsInRange command.Events = Unit {0}
-IsInRange (command.Trace n) = Unit {0}
+IsInRange _ = Unit {0}

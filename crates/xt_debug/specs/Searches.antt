@@ -3,7 +3,7 @@
 use Rattle.std.specs.Prelude.{ℕ, zero, suc, ◌-◌, ◌/◌, Bool, true, false, ◌&&◌, ◌==◌, nat_le}
 use Rattle.std.specs.Prelude.{if◌then◌else◌, Option, Some, None, List, length, drop}
 use Rattle.std.specs.List.{list_any, slice_get}
-use Rattle.std.specs.Option.{option_map}
+use Rattle.std.specs.Option.{option_map, option_map_or}
 use Rattle.xt_map.specs.declared.access.Entry.{Entry}
 use Rattle.xt_map.specs.declared.access.Kind.{Kind}
 use Rattle.xt_map.specs.declared.access.Kind.TheVariants as kind
@@ -48,14 +48,10 @@ step_position r core step =
 
 -- ---- `break` and `prior`
 
-abbrev pub is_core : ℕ → Option ℕ → Bool
-is_core core None = false
-is_core core (Some c) = c == core
-
 -- the next step is this core's, and the core's program counter is one of the addresses
 unfoldable pub is_next : Image → Run → Breakpoint → ℕ → Bool
 is_next image r b p =
-    is_core b.core (slice_get (schedule_in r) p)
+    option_map_or (λ (core : ℕ). core == b.core) (slice_get (schedule_in r) p) false
     && list_any
     (λ (address : ℕ). address == (state_in b.core (shown_at image r p)).control.pc)
     b.addresses

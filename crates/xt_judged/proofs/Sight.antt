@@ -129,7 +129,7 @@ module _ (p : FrameState) (l : List ℕ) where
 -- ---- the first breach of a record
 
 module _ (code : ℕ → ℕ) (bytes : AreBytes code) (b : Bounds) (fresh : Bool) (live stale : ℕ → Bool) (rec : StepRecord) (ccount interrupt : ℕ) where
-  laid_shown : (p : FrameState) (l : List ℕ) → AreAlike p.control.special l → bit_and (special_of p.control 228) timer_bits ≡ 0
+  laid_shown : (p : FrameState) (l : List ℕ) → AreAlike true p.control.special l → bit_and (special_of p.control 228) timer_bits ≡ 0
       → AreKeptTurns (step_with_inputs code rec.reply p) (step_with_inputs code rec.reply (record p { control = with_special p.control l }))
       → laid_breach b fresh code live stale rec p ≡ laid_breach b fresh code live stale (record rec { ccount = ccount; interrupt = interrupt }) (record p { control = with_special p.control l })
   unfolding laid_breach
@@ -189,7 +189,7 @@ not_used x b h = let parts = or_parts (not (eqb x 0)) b h in (eqb-true x 0 (nega
     negated true e = refl
     negated false e = absurd (true≢false e)
 
-module _ (code : ℕ → ℕ) (bytes : AreBytes code) (b : Bounds) (f : FrameState) (ys : List ℕ) (a : AreAlike f.control.special ys) (fresh : Bool) (others stale : ℕ → Bool) (rec : StepRecord)
+module _ (code : ℕ → ℕ) (bytes : AreBytes code) (b : Bounds) (f : FrameState) (ys : List ℕ) (a : AreAlike true f.control.special ys) (fresh : Bool) (others stale : ℕ → Bool) (rec : StepRecord)
     (ccount interrupt : ℕ) (same : without_bits rec.interrupt timer_bits ≡ without_bits interrupt timer_bits) (free : frame_uses_time code f ≡ false) where
   abbrev g : FrameState
   g = record f { control = with_special f.control ys }

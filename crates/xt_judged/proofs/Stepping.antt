@@ -46,14 +46,14 @@ with_nested p q x y k e =
 pub unlike_special : {A : Type 0} (h : FrameState → A) (p q : FrameState) → ((list : List ℕ) → h (record p { control = with_special p.control list }) ≡ h p) → IsKeptFrame p q → h p ≡ h q
 unlike_special h p q same k = sym (same k.list) ∙ sym (ap h k.is)
 
-module _ (f : FrameState) (ys : List ℕ) (a : AreAlike f.control.special ys) (rec : StepRecord) (ccount interrupt : ℕ) (same : without_bits rec.interrupt timer_bits ≡ without_bits interrupt timer_bits) where
+module _ (f : FrameState) (ys : List ℕ) (a : AreAlike true f.control.special ys) (rec : StepRecord) (ccount interrupt : ℕ) (same : without_bits rec.interrupt timer_bits ≡ without_bits interrupt timer_bits) where
   abbrev g : FrameState
   g = record f { control = with_special f.control ys }
 
   abbrev rec' : StepRecord
   rec' = record rec { ccount = ccount; interrupt = interrupt }
 
-  put_alike : (xs zs : List ℕ) → AreAlike xs zs → AreAlike (slice_set (slice_set xs 234 rec.ccount) 226 rec.interrupt) (slice_set (slice_set zs 234 ccount) 226 interrupt)
+  put_alike : (xs zs : List ℕ) → AreAlike true xs zs → AreAlike true (slice_set (slice_set xs 234 rec.ccount) 226 rec.interrupt) (slice_set (slice_set zs 234 ccount) 226 interrupt)
   put_alike xs zs al =
       alike_put (slice_set xs 234 rec.ccount) (slice_set zs 234 ccount) 226 rec.interrupt interrupt (λ h. absurd (true≢false h)) (λ h. same)
       (alike_put xs zs 234 rec.ccount ccount (λ h. absurd (true≢false h)) (λ e. absurd (omega arith)) al)
@@ -71,7 +71,7 @@ module _ (f : FrameState) (ys : List ℕ) (a : AreAlike f.control.special ys) (r
   pub found_kept : (n : Option Nested) → IsKeptFrame (with_inputs (inputs_of rec) (current_in n f)) (with_inputs (inputs_of rec') (current_in n g))
   found_kept n = record {
     list = slice_set (slice_set ys 234 ccount) 226 interrupt;
-    alike = put_alike (current_in n f).control.special ys (subst (λ (l : List ℕ). AreAlike l ys) (sym (current_special n)) a);
+    alike = put_alike (current_in n f).control.special ys (subst (λ (l : List ℕ). AreAlike true l ys) (sym (current_special n)) a);
     is = ap (with_inputs (inputs_of rec')) (current_kept n);
   }
 

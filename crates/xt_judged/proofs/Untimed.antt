@@ -34,10 +34,10 @@ use Rattle.xt_timeless.proofs.Same.{AreAlikeOutcomes, outcomes_alike}
 -- the second state is the first but for time
 pub record IsKeptFrame (f g : FrameState) : Type 0 where
   pub list : List ℕ
-  pub alike : AreAlike f.control.special list
+  pub alike : AreAlike true f.control.special list
   pub is : g ≡ record f { control = with_special f.control list }
 
-pub kept_control : (f : FrameState) (c d : Control) → IsKept c d → IsKeptFrame (record f { control = c }) (record f { control = d })
+pub kept_control : (f : FrameState) (c d : Control) → IsKept true c d → IsKeptFrame (record f { control = c }) (record f { control = d })
 kept_control f c d k = record { list = k.list; alike = k.alike; is = ap (λ (x : Control). let t : FrameState = record f { control = x } in t) k.is }
 
 pub record AreKeptTurns (u v : FrameTurn) : Type 0 where
@@ -51,9 +51,9 @@ pub record AreKeptSettled (t s : Settled) : Type 0 where
   pub write : t.write ≡ s.write
   pub access : t.access ≡ s.access
   pub awaited : t.awaited ≡ s.awaited
-  pub control : IsKept t.control s.control
+  pub control : IsKept true t.control s.control
 
-pub bare_kept : (what : Kind) (write : Option RegWrite) (c d : Control) → IsKept c d → AreKeptSettled (without_access what write c) (without_access what write d)
+pub bare_kept : (what : Kind) (write : Option RegWrite) (c d : Control) → IsKept true c d → AreKeptSettled (without_access what write c) (without_access what write d)
 bare_kept what write c d k = record { kind = refl; write = refl; access = refl; awaited = refl; control = kept_tick c d k }
 
 pub in_frame_kept : (t s : Settled) (reply : ℕ) (f : FrameState) (d : Control) → AreKeptSettled t s → AreKeptTurns (in_frame t reply f) (in_frame s reply (record f { control = d }))
@@ -75,7 +75,7 @@ chosen_kept : (b : Bool) (p q r s : FrameTurn) → AreKeptTurns p q → AreKeptT
 chosen_kept true p q r s h k = h
 chosen_kept false p q r s h k = k
 
-module _ (f : FrameState) (ys : List ℕ) (a : AreAlike f.control.special ys) where
+module _ (f : FrameState) (ys : List ℕ) (a : AreAlike true f.control.special ys) where
   abbrev g : FrameState
   g = record f { control = with_special f.control ys }
 
@@ -124,7 +124,7 @@ module _ (f : FrameState) (ys : List ℕ) (a : AreAlike f.control.special ys) wh
 
   -- ---- outcomes
 
-  does_kept : (e : Effect) (sets : SpecialWrites) (len reply : ℕ) → AreAlike (with_sets e.sets f.control.special) (with_sets sets ys)
+  does_kept : (e : Effect) (sets : SpecialWrites) (len reply : ℕ) → AreAlike true (with_sets e.sets f.control.special) (with_sets sets ys)
       → AreKeptTurns (done_in_frame (Does e) len reply f) (done_in_frame (Does (record e { sets = sets })) len reply g)
   does_kept e sets len reply al =
       in_frame_kept (after_outcome (Does e) len f.control) (after_outcome (Does (record e { sets = sets })) len g.control) reply f g.control
@@ -146,11 +146,11 @@ module _ (f : FrameState) (ys : List ℕ) (a : AreAlike f.control.special ys) wh
       in_frame_kept (after_outcome Stops len f.control) (after_outcome Stops len g.control) reply f g.control (bare_kept Stopped None f.control g.control (kept f.control ys a))
   outcome_kept (Windowed step) len reply = windowed_kept step len reply
 
-  done_kept : (o p : Outcome) (len reply : ℕ) → AreAlikeOutcomes f.control.special ys o p → AreKeptTurns (done_in_frame o len reply f) (done_in_frame p len reply g)
+  done_kept : (o p : Outcome) (len reply : ℕ) → AreAlikeOutcomes true f.control.special ys o p → AreKeptTurns (done_in_frame o len reply f) (done_in_frame p len reply g)
   done_kept o p len reply h =
       ⊎_elim
       (λ (e : o ≡ p). subst (λ (q : Outcome). AreKeptTurns (done_in_frame o len reply f) (done_in_frame q len reply g)) e (outcome_kept o len reply))
-      (λ (d : (e : Effect) × (sets : SpecialWrites) × (o ≡ Does e) × (p ≡ Does (record e { sets = sets })) × AreAlike (with_sets e.sets f.control.special) (with_sets sets ys)).
+      (λ (d : (e : Effect) × (sets : SpecialWrites) × (o ≡ Does e) × (p ≡ Does (record e { sets = sets })) × AreAlike true (with_sets e.sets f.control.special) (with_sets sets ys)).
       subst (λ (q : Outcome). AreKeptTurns (done_in_frame q len reply f) (done_in_frame p len reply g)) (sym d.2)
       (subst (λ (q : Outcome). AreKeptTurns (done_in_frame (Does d.0) len reply f) (done_in_frame q len reply g)) (sym d.3) (does_kept d.0 d.1 len reply d.4)))
       h

@@ -26,10 +26,8 @@ breach_line b = concat (
     ∷ newline ∷ [])
 
 abbrev pub breach_lines : JudgedOrders → List ℕ
-breach_lines frames.Unknown = []
-breach_lines frames.Unchecked = []
-breach_lines frames.Whole = []
 breach_lines (frames.Broken breaches) = flat_map breach_line breaches.items
+breach_lines _ = []
 
 -- `frames F`, and the breaches that were met
 abbrev pub frames_line : JudgedOrders → List ℕ

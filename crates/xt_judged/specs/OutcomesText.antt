@@ -68,15 +68,12 @@ stuck_line whole order = concat (codes "stuck " ∷ stuck_text whole order ∷ n
 -- whether every order was looked at
 abbrev pub is_all : Ending → Bool
 is_all ending.All = true
-is_all ending.States = false
-is_all (ending.Time core pc) = false
+is_all _ = false
 
 -- every order was looked at, and it is known what is judged of their runs, or not
 abbrev pub all_text : JudgedOrders → List ℕ
 all_text frames.Unknown = codes "some frames"
-all_text frames.Unchecked = codes "all"
-all_text frames.Whole = codes "all"
-all_text (frames.Broken breaches) = codes "all"
+all_text _ = codes "all"
 
 -- or as many worlds were kept as may be, or a turn uses time
 abbrev pub end_line : JudgedOrders → Ending → List ℕ

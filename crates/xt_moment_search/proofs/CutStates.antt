@@ -1,5 +1,5 @@
 -- A state without the bits that are not known.
-use Rattle.std.proofs.Common.{◌≡◌, ◌≢◌, ℕ, ◌-◌, ◌<◌, Bool, true, false, cond, eqb, ◌||◌, List, length}
+use Rattle.std.proofs.Common.{◌≡◌, ◌≢◌, ℕ, ◌-◌, ◌<◌, Bool, true, false, cond, eqb, ◌&&◌, ◌||◌, List, length}
 use Rattle.std.proofs.Common.{get_or, set, refl, sym, ap, ◌∙◌, subst, ⊎_elim, arith}
 use Rattle.std.specs.Prelude.{bit_and, bit_or}
 use Rattle.std.proofs.lemmas.Bool.{cases_Bool, cases_eq}
@@ -12,7 +12,8 @@ use Rattle.xt_exec.specs.TurnLaws.{IsShaped}
 use Rattle.xt_uses.specs.Words.{all_bits, masked}
 use Rattle.xt_uses.specs.UseLaws.{AgreeIn}
 use Rattle.xt_uses.proofs.Agreeing.{agree_none, cut_agrees}
-use Rattle.xt_timeless.specs.Time.{is_of_time, special_without_time, without_time}
+use Rattle.xt_timeless.specs.Time.{special_without_time, without_time}
+use Rattle.xt_timeless.specs.Alike.{may_differ}
 use Rattle.xt_timeless.proofs.Lists.{cleared_alike}
 use Rattle.xt_simulation.specs.Knowledge.{Knowledge, StatesAgree}
 use Rattle.xt_simulation.proofs.SecretSpecials.{unequal}
@@ -53,15 +54,8 @@ one_cut masks xs at k less = ⊎_elim
 
 -- ---- special registers
 
-not_time : (n : ℕ) → n ≢ 226 → is_clock n ≡ false → is_of_time n ≡ false
-not_time n other clock =
-    by_tests (eqb n 234) (eqb n 226) (eqb n 240 || (eqb n 241 || eqb n 242))
-    (unequal n 226 other) clock
-  where
-    by_tests : (a b c : Bool) → b ≡ false → (a || c) ≡ false → (a || (b || c)) ≡ false
-    by_tests true b c e f = f
-    by_tests false true c e f = e
-    by_tests false false c e f = f
+may_not_differ : (n : ℕ) → n ≢ 226 → is_clock n ≡ false → may_differ true n ≡ false
+may_not_differ n other clock = λ i. unequal n 226 other i || (clock i && true)
 
 module _ (c : CoreMasks) (s t : State) (i : ℕ) (f : IsShaped s) (cut : IsCut c.regs s t) where
   abbrev m : Knowledge
@@ -81,7 +75,7 @@ module _ (c : CoreMasks) (s t : State) (i : ℕ) (f : IsShaped s) (cut : IsCut c
   kept n other clock =
       get_or-set_other xs 226 n i 0 other
       ∙ (ap (λ (l : List ℕ). get_or l n 0) same_lists
-      ∙ (sym ((cleared_alike t.control.special).same n (not_time n other clock))
+      ∙ (sym ((cleared_alike t.control.special).same n (may_not_differ n other clock))
       ∙ sym (get_or-set_other ys 226 n i 0 other)))
 
   interrupt : get_or (set xs 226 i) 226 0 ≡ get_or (set ys 226 i) 226 0

@@ -1,5 +1,6 @@
 mod Words
 mod Rows
+mod ShownLines
 mod Listing
 mod Used
 mod Learnt

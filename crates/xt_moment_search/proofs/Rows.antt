@@ -34,7 +34,7 @@ next_row made count x xs test =
 
 -- ---- the loop over an order
 
-at_place : (rest : List Move) (i : ℕ) (d : Move) → i < length rest
+pub at_place : (rest : List Move) (i : ℕ) (d : Move) → i < length rest
     → drop i rest ≡ get_or rest i d ∷ drop (i + 1) rest
 at_place rest i d within = rw (add-one i) (drop-cons rest i d within)
 

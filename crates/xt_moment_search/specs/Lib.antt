@@ -10,4 +10,5 @@ pub mod Stuckness
 pub mod Covering
 pub mod MomentOrders
 pub mod MomentLines
+pub mod ShownTurns
 pub mod Told

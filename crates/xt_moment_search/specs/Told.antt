@@ -4,7 +4,7 @@
 -- line is `all`, no order with moments has another outcome, whatever CCOUNT is at each turn. After
 -- `stuck none` each order can be continued until both cores have stopped, and no order that begins
 -- with the order of a line `stuck` ends so.
-use Rattle.std.specs.Prelude.{◌≡◌, ℕ, List, map}
+use Rattle.std.specs.Prelude.{◌≡◌, ◌++◌, ℕ, List, map}
 use Rattle.std.specs.List.{All}
 use Rattle.xt_image.specs.declared.image.Image.{Image}
 use Rattle.xt_trace.specs.declared.options.Options.{Options}
@@ -14,7 +14,9 @@ use Rattle.xt_core.specs.Runs.{code_of, opening_of}
 use Rattle.xt_moments.specs.Moments.{IsMove}
 use Rattle.xt_moments.specs.Outcomes.{CanAllEnd, EndsIn, HasAllOutcomes, IsStuck}
 use Rattle.xt_moments.specs.Outcomes.{MomentOutcome}
+use Rattle.xt_command_line.specs.declared.outcomes.Shown.{Shown}
 use Rattle.xt_moment_search.specs.MomentLines.{moments_text}
+use Rattle.xt_moment_search.specs.ShownTurns.{order_lines, shown_order}
 use Rattle.xt_moment_search.specs.declared.answers.Answers.{Answers}
 use Rattle.xt_moment_search.specs.declared.answers.Ending.TheVariants as ending
 use Rattle.xt_moment_search.specs.declared.found.Found.{Found}
@@ -39,12 +41,14 @@ IsStuckOf code o stuck.Never = CanAllEnd code o
 IsStuckOf code o (stuck.Order order) = All IsMove order.items × IsStuck code o order.items
 IsStuckOf code o stuck.Unknown = Unit {0}
 
--- this is the text of outcomes that are real
-pub record IsMomentsTold (image : Image) (o : Options) (addresses text : List ℕ) : Type 0 where
+-- this is the text of outcomes that are real, and the lines of the turns of the order that is shown
+pub record IsMomentsTold (image : Image) (o : Options) (addresses : List ℕ) (shown : Shown)
+    (text : List ℕ) : Type 0 where
   pub answers : Answers
   pub real : AreReal image o addresses answers.found.items
   pub stuck_is : IsStuckOf (code_of image) (opening_of image o) answers.stuck
   pub complete : answers.ended ≡ ending.All
       → HasAllOutcomes (code_of image) (opening_of image o) addresses
       (outcomes_in answers.found.items)
-  pub text_is : text ≡ moments_text addresses answers
+  pub text_is : text
+      ≡ moments_text addresses answers ++ order_lines image o (shown_order shown answers)

@@ -12,6 +12,7 @@ mod knowing;
 mod lines;
 mod machine;
 mod order_rows;
+mod showing;
 mod sides;
 mod stuck;
 mod texts;

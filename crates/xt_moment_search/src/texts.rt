@@ -10,8 +10,10 @@ use crate::answers::{Answers, Ending, answers_of};
 use crate::found::Found;
 use crate::lines::push_found;
 use crate::order_rows::order_text;
+use crate::showing::{push_order, shown_order};
 use crate::stuck::Stuck;
 use std::alloc::{AllocError, Global};
+use xt_command_line::Shown;
 use xt_image::{Image, well_formed_is_placed};
 use xt_map::Text;
 use xt_trace::Options;
@@ -68,8 +70,8 @@ fn push_outcomes(
 }
 
 // The lines of what was found. The only error is running out of memory.
-fn answers_text(alloc: Global, addresses: &[u32], answers: &Answers) -> Result<Text, AllocError>
-    ensures { IfOk result (λ text. text ≡ moments_text addresses.now answers.now) }
+fn answers_text(alloc: Global, addresses: &[u32], answers: &Answers) -> Result<Vec<u8>, AllocError>
+    ensures { IfOk result (λ text. text.items ≡ moments_text addresses.now answers.now) }
 {
     let mut out = Vec::new(alloc);
     push_outcomes(alloc, &mut out, addresses, answers.found.as_slice())?;
@@ -79,7 +81,7 @@ fn answers_text(alloc: Global, addresses: &[u32], answers: &Answers) -> Result<T
     out.extend_from_slice(count.as_bytes())?;
     out.extend_from_slice(stuck.as_bytes())?;
     out.extend_from_slice(end.as_bytes())?;
-    Ok(Text::new(out))
+    Ok(out)
 }
 
 /// The lines of what can come out of an image's runs if each armed timer may fire before any turn of its core:
@@ -101,7 +103,8 @@ fn answers_text(alloc: Global, addresses: &[u32], answers: &Answers) -> Result<T
 /// The first six for each outcome, with a line `word` for each address. ADDR and VALUE have eight upper-case hexadecimal
 /// digits. LIST is an order with moments: `C*N` for N turns of core C, and `C!K` where timer K of core C fires. The last line
 /// is `all` if the text has the outcome of every order with moments, `some states` if the search keeps as many worlds as may
-/// be, and `some time core C pc ADDR` if a turn uses what CCOUNT decides. The only error is running out of memory.
+/// be, and `some time core C pc ADDR` if a turn uses what CCOUNT decides. The lines of the turns of the order that is shown
+/// follow, as `trace` prints them. The only error is running out of memory.
 ///
 /// Conditions: the image is well formed, the options are valid, and each address lies at least 4 below 2^32.
 pub fn moments_text(
@@ -110,13 +113,22 @@ pub fn moments_text(
     options: &Options,
     addresses: &[u32],
     most: u32,
+    shown: Shown,
 ) -> Result<Text, AllocError>
     requires image { IsWellFormed image.now }
     requires valid { IsValid options.now }
     requires words { All (λ a. a + 4 ≤ 2 ^ 32) addresses.now }
-    ensures { IfOk result (IsMomentsTold image.now options.now addresses.now) }
+    ensures { IfOk result (IsMomentsTold image.now options.now addresses.now shown) }
 {
     well_formed_is_placed();
     let answers = answers_of(alloc, image, options, addresses, most)?;
-    answers_text(alloc, addresses, &answers)
+    let mut out = answers_text(alloc, addresses, &answers)?;
+    push_order(
+        alloc,
+        &mut out,
+        image,
+        options,
+        shown_order(&answers, shown),
+    )?;
+    Ok(Text::new(out))
 }

@@ -15,6 +15,7 @@ ghost use Rattle.xt_exec.specs.States.{file_state};
 ghost use Rattle.xt_exec.specs.Turn.{demand, turn};
 ghost use Rattle.xt_exec.specs.TurnLaws.{IsServed, IsShaped};
 ghost use Rattle.xt_moments.specs.Moments.{armed_in, core_fired, core_past, is_armed, opening_core, memory_past, with_special, with_timers};
+ghost use Rattle.xt_moments.specs.WorldLaws.{begun, turn_of};
 
 use crate::arming::{armed_by, interrupt_past, timer_bit, without_bits};
 use std::alloc::AllocError;
@@ -217,6 +218,31 @@ impl Actor {
             armed: self.armed | armed,
             stopped: stops(kind),
         }
+    }
+
+    /// The registers with which the core's next turn begins, at which CCOUNT is this number.
+    pub fn begun(&self, count: u32) -> Regs<WindowFile>
+        ensures state { file_state result ≡ begun count self.now }
+        ensures shaped { IsShaped (file_state result) }
+    {
+        with_register(self.regs, number::CCOUNT, count)
+    }
+
+    /// The record of the core's next turn, at which CCOUNT is this number, and the registers that
+    /// the processor leaves. The access is not served.
+    pub fn next_turn(
+        &self,
+        code: &Constants,
+        opening: &Memory,
+        changes: &Changes,
+        count: u32,
+    ) -> (StepRecord, Regs<WindowFile>)
+        requires { HasSizes opening.now.contents }
+        ensures { (result.0, file_state result.1) ≡ turn_of (constant_byte code.now) count self.now (contents_of opening.now.contents changes.now) }
+    {
+        let mut regs = self.begun(count);
+        let record = begun_turn(&mut regs, code, opening, changes);
+        (record, regs)
     }
 
     /// The core after its next turn, at which CCOUNT is this number, or as it is if it has stopped.

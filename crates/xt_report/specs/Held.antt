@@ -22,9 +22,8 @@ use Rattle.xt_simulation.specs.FillingLaws.{FollowsRecord}
 
 -- the breach that an answer names, if it names one
 abbrev pub found_in : Uses → Option Breach
-found_in Unchecked = None
-found_in (Whole n m) = None
 found_in (Broken first) = Some first.breach
+found_in _ = None
 
 -- Whatever stands where nothing is known: of each judged record before this turn the machine of
 -- frames over any filling has the PC, the kind, the access, the byte that is sent, and each known

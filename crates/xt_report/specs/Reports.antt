@@ -28,8 +28,7 @@ newline = 10 ∷ []
 -- a store sends its low byte
 abbrev pub byte_sent : Kind → Option ℕ
 byte_sent (Store value) = Some (value % 256)
-byte_sent Load = None
-byte_sent (Cas expected new) = None
+byte_sent _ = None
 
 -- the byte that an entry sends: only accesses to the transmit address send
 abbrev pub byte_of : Entry → Option ℕ

@@ -1,8 +1,8 @@
 //! Faults of images, ELF executables and recordings in words.
-ghost use Rattle.std.specs.Prelude.{◌≡◌, IfOk, string_bytes};
+ghost use Rattle.std.specs.Prelude.{◌≡◌, ◌++◌, IfOk, codes, string_bytes};
 ghost use Rattle.xt_report.specs.Statuses.{elf_fault_name, elf_fault_numbers, elf_fault_text, fault_text, image_fault_name, image_fault_numbers, record_fault_name, record_fault_numbers, record_fault_text};
 
-use crate::numbers::{Numbers, name_and_numbers};
+use crate::numbers::{Numbers, name_and_numbers, name_and_text};
 use std::alloc::{AllocError, Global};
 use xt_elf::ElfFault;
 use xt_image::ImageFault;
@@ -52,16 +52,21 @@ fn image_fault_numbers(fault: &ImageFault) -> Numbers
     }
 }
 
-/// A fault of an image: its name and the values that it keeps.
-pub fn image_fault_text(alloc: Global, fault: &ImageFault) -> Result<String, AllocError>
+// The words of a digest that is not the image's.
+fn digest_text(alloc: Global, kept: [u8; 32], computed: [u8; 32]) -> Result<String, AllocError>
+    ensures { IfOk result (λ text. string_bytes text ≡ fault_text (ImageFault.Digest kept computed)) }
+{
+    let kept = hex::encode(alloc, kept)?;
+    let computed = hex::encode(alloc, computed)?;
+    format!(in alloc; "Digest {kept} {computed}")
+}
+
+// A fault of an image: its name and the values that it keeps.
+fn image_fault_text(alloc: Global, fault: &ImageFault) -> Result<String, AllocError>
     ensures { IfOk result (λ text. string_bytes text ≡ fault_text fault.now) }
 {
     match *fault {
-        ImageFault::Digest(kept, computed) => {
-            let kept = hex::encode(alloc, kept)?;
-            let computed = hex::encode(alloc, computed)?;
-            format!(in alloc; "Digest {kept} {computed}")
-        }
+        ImageFault::Digest(kept, computed) => digest_text(alloc, kept, computed),
         _ => name_and_numbers(alloc, image_fault_name(fault), image_fault_numbers(fault)),
     }
 }
@@ -151,15 +156,20 @@ fn record_fault_numbers(fault: &RecordFault) -> Numbers
     }
 }
 
+/// The word `Image`, and behind it a fault of an image. The only error is running out of memory.
+pub fn image_words(alloc: Global, fault: &ImageFault) -> Result<String, AllocError>
+    ensures { IfOk result (λ text. string_bytes text ≡ codes "Image " ++ fault_text fault.now) }
+{
+    let text = image_fault_text(alloc, fault)?;
+    name_and_text(alloc, "Image", &text)
+}
+
 /// A fault of a recording: its name and the values that it keeps; of a fault of its image the image's.
 pub fn record_fault_text(alloc: Global, fault: &RecordFault) -> Result<String, AllocError>
     ensures { IfOk result (λ text. string_bytes text ≡ record_fault_text fault.now) }
 {
     match fault {
-        RecordFault::Image(fault) => {
-            let fault = image_fault_text(alloc, fault)?;
-            format!(in alloc; "Image {fault}")
-        }
+        RecordFault::Image(fault) => image_words(alloc, fault),
         _ => name_and_numbers(alloc, record_fault_name(fault), record_fault_numbers(fault)),
     }
 }

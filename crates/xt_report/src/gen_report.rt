@@ -1,12 +1,13 @@
 //! What `gen` writes.
-ghost use Rattle.std.specs.Prelude.{◌≡◌, IfOk, string_bytes};
-ghost use Rattle.xt_report.specs.Summaries.{gen_lines, stop_line, summary_text};
+ghost use Rattle.std.specs.Prelude.{◌≡◌, ◌++◌, IfOk, OnOk, string_bytes};
+ghost use Rattle.xt_report.specs.Reports.{sent_bytes};
+ghost use Rattle.xt_report.specs.Summaries.{gen_lines, sent_line, stop_line, summary_text};
 
-use crate::run_report::{all_sent, stop_name};
-use crate::verdict_lines::frames_line;
+use crate::run_report::{all_sent, push_bytes, stop_name};
+use crate::verdict_lines::push_frames_line;
 use crate::whole::Whole;
 use std::alloc::{AllocError, Global};
-use xt_map::Text;
+use xt_map::{Entry, Text};
 use xt_trace::Trace;
 
 // The lines of the number and of the image's length in bytes.
@@ -16,12 +17,22 @@ fn gen_lines(alloc: Global, number: u32, size: usize) -> Result<String, AllocErr
     format!(in alloc; "gen {number}\nimage {size}\n")
 }
 
-// The line of a core.
-fn stop_line(alloc: Global, core: u8, trace: &Trace) -> Result<String, AllocError>
-    ensures { IfOk result (λ line. string_bytes line ≡ stop_line core trace.now) }
+// Appends the line of the bytes that entries send.
+fn push_sent(alloc: Global, out: &mut Vec<u8>, entries: &[Entry]) -> Result<(), AllocError>
+    ensures { OnOk result (out.new.items ≡ out.old.items ++ sent_line (sent_bytes entries.now)) }
+{
+    let sent = all_sent(alloc, entries)?;
+    out.extend_from_slice(b"uart ")?;
+    push_bytes(out, &sent)
+}
+
+// Appends the line of a core.
+fn push_stop(alloc: Global, out: &mut Vec<u8>, core: u8, trace: &Trace) -> Result<(), AllocError>
+    ensures { OnOk result (out.new.items ≡ out.old.items ++ stop_line core trace.now) }
 {
     let stop = stop_name(trace.stop);
-    format!(in alloc; "core {core} stop {stop}\n")
+    let line = format!(in alloc; "core {core} stop {stop}\n")?;
+    out.extend_from_slice(line.as_bytes())
 }
 
 /// The summary of the run of an image that was made of a number, in lines that each end with a
@@ -42,13 +53,10 @@ fn stop_line(alloc: Global, core: u8, trace: &Trace) -> Result<String, AllocErro
 pub fn summary(alloc: Global, number: u32, size: usize, whole: &Whole) -> Result<Text, AllocError>
     ensures { IfOk result (λ text. text ≡ summary_text number size whole.now) }
 {
-    let sent = all_sent(alloc, whole.run.history.as_slice())?;
     let mut text = gen_lines(alloc, number, size)?.into_bytes();
-    text.extend_from_slice(b"uart ")?;
-    text.extend_from_slice(&sent)?;
-    text.push(b'\n')?;
-    text.extend_from_slice(stop_line(alloc, 0, &whole.run.trace0)?.as_bytes())?;
-    text.extend_from_slice(stop_line(alloc, 1, &whole.run.trace1)?.as_bytes())?;
-    text.extend_from_slice(frames_line(alloc, whole.judged)?.as_bytes())?;
+    push_sent(alloc, &mut text, whole.run.history.as_slice())?;
+    push_stop(alloc, &mut text, 0, &whole.run.trace0)?;
+    push_stop(alloc, &mut text, 1, &whole.run.trace1)?;
+    push_frames_line(alloc, &mut text, whole.judged)?;
     Ok(Text::new(text))
 }

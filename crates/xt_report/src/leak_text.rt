@@ -7,13 +7,13 @@ ghost use Rattle.xt_report.specs.SecretFindings.{AreSecretsTold};
 ghost use Rattle.xt_report.specs.SecretsText.{kept_text, leak_line, leak_text, secrets_text};
 
 use crate::leaks::secrets_of;
-use crate::text::{both_text, insn_text};
+use crate::text::{both_text, push_turn};
 use std::alloc::{AllocError, Global};
 use std::fmt::Write;
 use xt_image::{Image, well_formed_is_placed};
 use xt_map::{Constants, Text};
 use xt_secret_walk::{FirstLeak, Secrets};
-use xt_trace::{Run, line};
+use xt_trace::Run;
 
 /// The line `secrets leak core C step N`. The only error is running out of memory.
 pub fn leak_line(alloc: Global, first: &FirstLeak) -> Result<Text, AllocError>
@@ -28,13 +28,9 @@ pub fn leak_line(alloc: Global, first: &FirstLeak) -> Result<Text, AllocError>
 fn leak_text(alloc: Global, code: &Constants, first: &FirstLeak) -> Result<Text, AllocError>
     ensures { IfOk result (λ text. text ≡ leak_text (constant_byte code.now) first.now) }
 {
-    let head = leak_line(alloc, first)?;
-    let record = line(alloc, first.core, first.step, &first.rec)?;
-    let insn = insn_text(alloc, code, first.rec.pc)?;
+    let mut out = leak_line(alloc, first)?.into_vec();
+    push_turn(alloc, &mut out, code, first.core, first.step, &first.rec)?;
     let lacks = both_text(alloc, first.lacks)?;
-    let mut out = head.into_vec();
-    out.extend_from_slice(record.as_slice())?;
-    out.extend_from_slice(insn.as_bytes())?;
     out.extend_from_slice(lacks.as_bytes())?;
     Ok(Text::new(out))
 }

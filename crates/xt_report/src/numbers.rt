@@ -1,5 +1,5 @@
 //! A name with numbers behind it.
-ghost use Rattle.std.specs.Prelude.{◌≡◌, IfOk, string_bytes};
+ghost use Rattle.std.specs.Prelude.{◌≡◌, ◌++◌, IfOk, codes, string_bytes};
 ghost use Rattle.xt_report.specs.Statuses.{name_and_numbers};
 
 use std::alloc::{AllocError, Global};
@@ -27,4 +27,11 @@ pub fn name_and_numbers(alloc: Global, name: &str, numbers: Numbers) -> Result<S
         Numbers::Two(a, b) => format!(in alloc; "{name} {a} {b}"),
         Numbers::Three(a, b, c) => format!(in alloc; "{name} {a} {b} {c}"),
     }
+}
+
+/// A name, and behind it a text. The only error is running out of memory.
+pub fn name_and_text(alloc: Global, name: &str, text: &str) -> Result<String, AllocError>
+    ensures { IfOk result (λ both. string_bytes both ≡ name.now ++ (codes " " ++ text.now)) }
+{
+    format!(in alloc; "{name} {text}")
 }

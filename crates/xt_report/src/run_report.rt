@@ -1,10 +1,12 @@
 //! The report of a run.
-ghost use Rattle.std.specs.Prelude.{◌≡◌, IfOk, string_bytes};
-ghost use Rattle.xt_report.specs.Reports.{byte_of, byte_sent, core_line, history_line, report_text, run_lines, sent_bytes, stop_text, uart_lines};
+ghost use Rattle.std.specs.Prelude.{◌≡◌, ◌++◌, IfOk, OnOk, string_bytes};
+ghost use Rattle.xt_report.specs.Reports.{byte_of, byte_sent, core_line, history_line, newline, report_text, run_lines, sent_bytes, stop_text, uart_lines};
+ghost use Rattle.xt_report.specs.Verdicts.{handlers_line};
 
-use crate::verdict_lines::{frames_line, handlers_line};
+use crate::verdict_lines::{handlers_line, push_frames_line};
 use crate::whole::Whole;
 use std::alloc::{AllocError, Global};
+use xt_handlers::Handlers;
 use xt_map::{Entry, Kind, Text, UART_TRANSMIT};
 use xt_trace::{Run, Stop, Trace};
 use xt_word::hexadecimal;
@@ -60,11 +62,47 @@ fn line_of(alloc: Global, core: u8, trace: &Trace) -> Result<String, AllocError>
     format!(in alloc; "core {core} stop {stop} turns {turns} pc {pc}\n")
 }
 
-// The line of a history of so many accesses.
-fn history_of(alloc: Global, count: usize) -> Result<String, AllocError>
-    ensures { IfOk result (λ line. string_bytes line ≡ history_line count) }
+// Appends the line of a core.
+fn push_core(alloc: Global, out: &mut Vec<u8>, core: u8, trace: &Trace) -> Result<(), AllocError>
+    ensures { OnOk result (out.new.items ≡ out.old.items ++ core_line core trace.now) }
 {
-    format!(in alloc; "history {count}\n")
+    let line = line_of(alloc, core, trace)?;
+    out.extend_from_slice(line.as_bytes())
+}
+
+// Appends the line of a history of so many accesses.
+fn push_history(alloc: Global, out: &mut Vec<u8>, count: usize) -> Result<(), AllocError>
+    ensures { OnOk result (out.new.items ≡ out.old.items ++ history_line count) }
+{
+    let line = format!(in alloc; "history {count}\n")?;
+    out.extend_from_slice(line.as_bytes())
+}
+
+/// Appends these bytes and a newline. The only error is running out of memory.
+pub fn push_bytes(out: &mut Vec<u8>, bytes: &[u8]) -> Result<(), AllocError>
+    ensures { OnOk result (out.new.items ≡ out.old.items ++ (bytes.now ++ newline)) }
+{
+    out.extend_from_slice(bytes)?;
+    out.push(b'\n')?;
+    Ok(())
+}
+
+// The lines of the bytes that were sent.
+fn sent_lines(alloc: Global, sent: &[u8]) -> Result<Vec<u8>, AllocError>
+    ensures { IfOk result (λ lines. lines.items ≡ uart_lines sent.now) }
+{
+    let count = sent.len();
+    let mut text = format!(in alloc; "uart {count}\n")?.into_bytes();
+    push_bytes(&mut text, sent)?;
+    Ok(text)
+}
+
+// The lines of the bytes that entries send.
+fn uart_lines(alloc: Global, entries: &[Entry]) -> Result<Vec<u8>, AllocError>
+    ensures { IfOk result (λ lines. lines.items ≡ uart_lines (sent_bytes entries.now)) }
+{
+    let sent = all_sent(alloc, entries)?;
+    sent_lines(alloc, &sent)
 }
 
 /// The lines of a run by itself, each with a newline at its end:
@@ -84,15 +122,19 @@ fn history_of(alloc: Global, count: usize) -> Result<String, AllocError>
 pub fn run_lines(alloc: Global, run: &Run) -> Result<Text, AllocError>
     ensures { IfOk result (λ text. text ≡ run_lines run.now) }
 {
-    let sent = all_sent(alloc, run.history.as_slice())?;
-    let count = sent.len();
-    let mut text = format!(in alloc; "uart {count}\n")?.into_bytes();
-    text.extend_from_slice(&sent)?;
-    text.push(b'\n')?;
-    text.extend_from_slice(line_of(alloc, 0, &run.trace0)?.as_bytes())?;
-    text.extend_from_slice(line_of(alloc, 1, &run.trace1)?.as_bytes())?;
-    text.extend_from_slice(history_of(alloc, run.history.len())?.as_bytes())?;
+    let mut text = uart_lines(alloc, run.history.as_slice())?;
+    push_core(alloc, &mut text, 0, &run.trace0)?;
+    push_core(alloc, &mut text, 1, &run.trace1)?;
+    push_history(alloc, &mut text, run.history.len())?;
     Ok(Text::new(text))
+}
+
+// Appends the line of the answers for the six window handlers.
+fn push_handlers(alloc: Global, out: &mut Vec<u8>, handlers: &Handlers) -> Result<(), AllocError>
+    ensures { OnOk result (out.new.items ≡ out.old.items ++ handlers_line handlers.now) }
+{
+    let line = handlers_line(alloc, handlers)?;
+    out.extend_from_slice(line.as_bytes())
 }
 
 /// The report of a run: its own lines, and those of the answers for the six window handlers and of
@@ -110,7 +152,7 @@ pub fn report(alloc: Global, whole: &Whole) -> Result<Text, AllocError>
     ensures { IfOk result (λ text. text ≡ report_text whole.now) }
 {
     let mut text = run_lines(alloc, &whole.run)?.into_vec();
-    text.extend_from_slice(handlers_line(alloc, &whole.handlers)?.as_bytes())?;
-    text.extend_from_slice(frames_line(alloc, whole.judged)?.as_bytes())?;
+    push_handlers(alloc, &mut text, &whole.handlers)?;
+    push_frames_line(alloc, &mut text, whole.judged)?;
     Ok(Text::new(text))
 }

@@ -1,9 +1,9 @@
 //! How the program ends: the status, its line and its code.
-ghost use Rattle.std.specs.Prelude.{◌≡◌, IfOk, string_bytes};
-ghost use Rattle.xt_report.specs.Statuses.{status_after, status_code, status_name, status_numbers, status_text, status_words};
+ghost use Rattle.std.specs.Prelude.{◌≡◌, ◌++◌, IfOk, codes, string_bytes};
+ghost use Rattle.xt_report.specs.Statuses.{elf_fault_text, record_fault_text, status_after, status_code, status_name, status_numbers, status_text, status_words};
 
-use crate::faults::{elf_fault_text, image_fault_text, record_fault_text};
-use crate::numbers::{Numbers, name_and_numbers};
+use crate::faults::{elf_fault_text, image_words, record_fault_text};
+use crate::numbers::{Numbers, name_and_numbers, name_and_text};
 use std::alloc::{AllocError, Global};
 use xt_elf::ElfFault;
 use xt_image::ImageFault;
@@ -98,23 +98,30 @@ fn status_numbers(status: &Status) -> Numbers
     }
 }
 
+// The words of a status that holds a fault of an ELF executable.
+fn elf_words(alloc: Global, fault: &ElfFault) -> Result<String, AllocError>
+    ensures { IfOk result (λ text. string_bytes text ≡ codes "Elf " ++ elf_fault_text fault.now) }
+{
+    let text = elf_fault_text(alloc, fault)?;
+    name_and_text(alloc, "Elf", &text)
+}
+
+// The words of a status that holds a fault of a recording.
+fn record_words(alloc: Global, fault: &RecordFault) -> Result<String, AllocError>
+    ensures { IfOk result (λ text. string_bytes text ≡ codes "Recording " ++ record_fault_text fault.now) }
+{
+    let text = record_fault_text(alloc, fault)?;
+    name_and_text(alloc, "Recording", &text)
+}
+
 // The words of a status.
 fn status_words(alloc: Global, status: &Status) -> Result<String, AllocError>
     ensures { IfOk result (λ text. string_bytes text ≡ status_words status.now) }
 {
     match status {
-        Status::Image(fault) => {
-            let fault = image_fault_text(alloc, fault)?;
-            format!(in alloc; "Image {fault}")
-        }
-        Status::Elf(fault) => {
-            let fault = elf_fault_text(alloc, fault)?;
-            format!(in alloc; "Elf {fault}")
-        }
-        Status::Recording(fault) => {
-            let fault = record_fault_text(alloc, fault)?;
-            format!(in alloc; "Recording {fault}")
-        }
+        Status::Image(fault) => image_words(alloc, fault),
+        Status::Elf(fault) => elf_words(alloc, fault),
+        Status::Recording(fault) => record_words(alloc, fault),
         _ => name_and_numbers(alloc, status_name(status), status_numbers(status)),
     }
 }

@@ -3,6 +3,8 @@ ghost use Rattle.std.specs.Prelude.{◌≡◌, ◌++◌, ◌+◌, ◌<◌, ◌^�
 ghost use Rattle.xt_map.specs.Memory.{constant_byte};
 ghost use Rattle.xt_map.specs.Fetching.{fetch_at};
 ghost use Rattle.xt_core.specs.Runs.{IsRunOf};
+ghost use Rattle.xt_report.specs.Breaches.{breach_text};
+ghost use Rattle.xt_trace.specs.Lines.{line_text};
 ghost use Rattle.xt_image.specs.ImageParts.{IsWellFormed};
 ghost use Rattle.xt_report.specs.UsesText.{both_text, broken_text, held_text, insn_text, lack_text, lacks_text, listed_at, uses_text, whole_text};
 ghost use Rattle.xt_report.specs.UseFindings.{IsUsesTold};
@@ -13,10 +15,10 @@ use std::alloc::{AllocError, Global};
 use std::fmt::Write;
 use xt_codec::{Fetch, instruction_at};
 use xt_disasm::push_line;
-use xt_frames::BreachKind;
+use xt_frames::{Breach, BreachKind};
 use xt_image::{Image, well_formed_is_placed};
 use xt_map::{Constants, Text, code_three};
-use xt_trace::{Run, line};
+use xt_trace::{Run, StepRecord, line};
 use xt_use_walk::{FirstUse, Uses};
 use xt_uses::{Discipline, Lack};
 use xt_word::push_hex8;
@@ -31,16 +33,41 @@ fn push_listed(out: &mut String, code: &Constants, pc: u32) -> Result<(), AllocE
     Ok(())
 }
 
-/// The line that a listing has of the instruction that an address fetches, if any. The only error is running out of memory.
-pub fn insn_text(alloc: Global, code: &Constants, pc: u32) -> Result<String, AllocError>
+// Appends the line that a listing has of the instruction that an address fetches, if any.
+fn push_insn(out: &mut String, code: &Constants, pc: u32) -> Result<(), AllocError>
+    ensures { OnOk result (string_bytes out.new ≡ string_bytes out.old ++ insn_text (fetch_at (constant_byte code.now) pc) (constant_byte code.now) pc) }
+{
+    match instruction_at::<Uses>(code, pc) {
+        Fetch::Insn(_, _) => push_listed(out, code, pc),
+        Fetch::Fails(_) | Fetch::Nothing => Ok(()),
+    }
+}
+
+// The line that a listing has of the instruction that an address fetches, if any.
+fn insn_text(alloc: Global, code: &Constants, pc: u32) -> Result<String, AllocError>
     ensures { IfOk result (λ text. string_bytes text ≡ insn_text (fetch_at (constant_byte code.now) pc) (constant_byte code.now) pc) }
 {
     let mut out = String::new(alloc);
-    match instruction_at::<Uses>(code, pc) {
-        Fetch::Insn(_, _) => push_listed(&mut out, code, pc)?,
-        Fetch::Fails(_) | Fetch::Nothing => {}
-    }
+    push_insn(&mut out, code, pc)?;
     Ok(out)
+}
+
+/// Appends the trace line of a record, and the line that a listing has of the instruction that its program counter fetches,
+/// if any. The only error is running out of memory.
+pub fn push_turn(
+    alloc: Global,
+    out: &mut Vec<u8>,
+    code: &Constants,
+    core: u8,
+    step: u32,
+    rec: &StepRecord,
+) -> Result<(), AllocError>
+    ensures { OnOk result (out.new.items ≡ out.old.items ++ (line_text core step rec.now ++ insn_text (fetch_at (constant_byte code.now) rec.now.pc) (constant_byte code.now) rec.now.pc)) }
+{
+    let record = line(alloc, core, step, rec)?;
+    out.extend_from_slice(record.as_slice())?;
+    let insn = insn_text(alloc, code, rec.pc)?;
+    out.extend_from_slice(insn.as_bytes())
 }
 
 // Appends what a register holds.
@@ -95,18 +122,23 @@ fn lacks_text(
     }
 }
 
+// The line of a breach.
+fn breach_line(alloc: Global, breach: Breach) -> Result<Vec<u8>, AllocError>
+    ensures { IfOk result (λ line. line.items ≡ codes "uses " ++ (breach_text breach ++ codes "\n")) }
+{
+    let breach = breach_text(alloc, breach)?;
+    let line = format!(in alloc; "uses {breach}\n")?;
+    Ok(line.into_bytes())
+}
+
 // What is printed of a breach.
 fn broken_text(alloc: Global, code: &Constants, first: &FirstUse) -> Result<Text, AllocError>
     ensures { IfOk result (λ text. text ≡ broken_text (constant_byte code.now) first.now) }
 {
-    let breach = breach_text(alloc, first.breach)?;
-    let record = line(alloc, first.breach.core, first.breach.step, &first.rec)?;
-    let insn = insn_text(alloc, code, first.rec.pc)?;
-    let lacks = lacks_text(alloc, first.breach.kind, first.lacks)?;
-    let head = format!(in alloc; "uses {breach}\n")?;
-    let mut out = head.into_bytes();
-    out.extend_from_slice(record.as_slice())?;
-    out.extend_from_slice(insn.as_bytes())?;
+    let breach = first.breach;
+    let mut out = breach_line(alloc, breach)?;
+    push_turn(alloc, &mut out, code, breach.core, breach.step, &first.rec)?;
+    let lacks = lacks_text(alloc, breach.kind, first.lacks)?;
     out.extend_from_slice(lacks.as_bytes())?;
     Ok(Text::new(out))
 }

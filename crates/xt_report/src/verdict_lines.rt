@@ -1,44 +1,56 @@
 //! The lines of what is found of an image and its run.
-ghost use Rattle.std.specs.Prelude.{◌≡◌, IfOk, string_bytes};
+ghost use Rattle.std.specs.Prelude.{◌≡◌, ◌++◌, IfOk, OnOk, string_bytes};
 ghost use Rattle.xt_report.specs.Verdicts.{frames_line, frames_text, handlers_line, pair_text, verdict_text};
 
 use crate::breaches::breach_text;
 use std::alloc::{AllocError, Global};
+use std::fmt::Write;
 use xt_frames::Judged;
 use xt_handlers::{HandlerVerdict, Handlers};
 
-// The answer for a handler, in a word.
-fn verdict_text(alloc: Global, verdict: HandlerVerdict) -> Result<String, AllocError>
-    ensures { IfOk result (λ text. string_bytes text ≡ verdict_text verdict) }
+// Appends the answer for a handler, in a word.
+fn push_verdict(out: &mut String, verdict: HandlerVerdict) -> Result<(), AllocError>
+    ensures { OnOk result (string_bytes out.new ≡ string_bytes out.old ++ verdict_text verdict) }
 {
     match verdict {
-        HandlerVerdict::Yes => format!(in alloc; "yes"),
-        HandlerVerdict::No(offset) => format!(in alloc; "no {offset}"),
+        HandlerVerdict::Yes => out.push_str("yes"),
+        HandlerVerdict::No(offset) => write!(out, "no {offset}"),
     }
 }
 
-// The answers for the two handlers of one size of call.
-fn pair_text(
-    alloc: Global,
+// Appends the answers for the two handlers of one size of call.
+fn push_pair(
+    out: &mut String,
     size: &str,
     overflow: HandlerVerdict,
     underflow: HandlerVerdict,
-) -> Result<String, AllocError>
-    ensures { IfOk result (λ text. string_bytes text ≡ pair_text size.now overflow underflow) }
+) -> Result<(), AllocError>
+    ensures { OnOk result (string_bytes out.new ≡ string_bytes out.old ++ pair_text size.now overflow underflow) }
 {
-    let of = verdict_text(alloc, overflow)?;
-    let uf = verdict_text(alloc, underflow)?;
-    format!(in alloc; " of{size} {of} uf{size} {uf}")
+    write!(out, " of{size} ")?;
+    push_verdict(out, overflow)?;
+    write!(out, " uf{size} ")?;
+    push_verdict(out, underflow)
+}
+
+// Appends the line of the answers for the six window handlers.
+fn push_answers(out: &mut String, handlers: &Handlers) -> Result<(), AllocError>
+    ensures { OnOk result (string_bytes out.new ≡ string_bytes out.old ++ handlers_line handlers.now) }
+{
+    out.push_str("handlers")?;
+    push_pair(out, "4", handlers.of4, handlers.uf4)?;
+    push_pair(out, "8", handlers.of8, handlers.uf8)?;
+    push_pair(out, "12", handlers.of12, handlers.uf12)?;
+    out.push_str("\n")
 }
 
 /// The line of the answers for the six window handlers. The only error is running out of memory.
 pub fn handlers_line(alloc: Global, handlers: &Handlers) -> Result<String, AllocError>
     ensures { IfOk result (λ line. string_bytes line ≡ handlers_line handlers.now) }
 {
-    let by4 = pair_text(alloc, "4", handlers.of4, handlers.uf4)?;
-    let by8 = pair_text(alloc, "8", handlers.of8, handlers.uf8)?;
-    let by12 = pair_text(alloc, "12", handlers.of12, handlers.uf12)?;
-    format!(in alloc; "handlers{by4}{by8}{by12}\n")
+    let mut line = String::new(alloc);
+    push_answers(&mut line, handlers)?;
+    Ok(line)
 }
 
 // What is judged of a run, in words.
@@ -58,4 +70,12 @@ pub fn frames_line(alloc: Global, judged: Judged) -> Result<String, AllocError>
 {
     let text = frames_text(alloc, judged)?;
     format!(in alloc; "frames {text}\n")
+}
+
+/// Appends the line of what is judged of a run.
+pub fn push_frames_line(alloc: Global, out: &mut Vec<u8>, judged: Judged) -> Result<(), AllocError>
+    ensures { OnOk result (out.new.items ≡ out.old.items ++ frames_line judged) }
+{
+    let line = frames_line(alloc, judged)?;
+    out.extend_from_slice(line.as_bytes())
 }

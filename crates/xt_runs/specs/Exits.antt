@@ -3,6 +3,7 @@
 use Rattle.std.specs.Prelude.{ℕ, nat_lt, Bool, false, ◌==◌, ◌&&◌, if◌then◌else◌, Option, Some, None}
 use Rattle.std.specs.Prelude.{List, [], ◌∷◌, ◌++◌, codes}
 use Rattle.std.specs.List.{concat}
+use Rattle.std.specs.Option.{option_or}
 use Rattle.std.specs.Fmt.{decimal}
 use Rattle.xt_word.specs.Hexadecimal.{hex8}
 use Rattle.xt_isa.specs.declared.Insn.{Insn}
@@ -74,18 +75,13 @@ unmet_of_core core turns stop.Break broken = broken
 unmet_of_core core turns stop.Turns broken =
     if nat_lt 0 turns then Some (stop_line core) else None
 
--- this line, or else the other
-abbrev pub first_line : Option (List ℕ) → Option (List ℕ) → Option (List ℕ)
-first_line (Some line) other = Some line
-first_line None other = other
-
 -- the state in which the run leaves a core
 abbrev pub last_state : ℕ → Image → Run → State
 last_state core image r = state_in core (shown_last image r)
 
 abbrev pub unmet_exit : Image → Run → Option (List ℕ)
 unmet_exit image r =
-    first_line
+    option_or
     (unmet_of_core 0 r.options.turns0 r.trace0.stop
     (unmet_in_state 0 (code_of image) (last_state 0 image r)))
     (unmet_of_core 1 r.options.turns1 r.trace1.stop

@@ -1,6 +1,7 @@
 -- What `run --memory` writes of memory as the run leaves it ('profile').
-use Rattle.std.specs.Prelude.{ℕ, List, [], length, Option, Some, None}
+use Rattle.std.specs.Prelude.{ℕ, List, [], length}
 use Rattle.std.specs.List.{flat_map}
+use Rattle.std.specs.Option.{option_map_or}
 use Rattle.xt_image.specs.declared.image.Image.{Image}
 use Rattle.xt_trace.specs.declared.run.Run.{Run}
 use Rattle.xt_core.specs.Positions.{schedule_in}
@@ -20,10 +21,6 @@ span_lines shown spans = flat_map (span_line shown) spans
 abbrev pub shown_last : Image → Run → Shown
 shown_last image r = shown_at image r (length (schedule_in r))
 
-abbrev pub memory_for : Option (List Span) → Image → Run → List ℕ
-memory_for None image r = []
-memory_for (Some spans) image r = span_lines (shown_last image r) spans
-
 -- a line for each place that the words name
 abbrev pub memory_text : RunOptions → Image → Run → List ℕ
-memory_text o image r = memory_for o.memory image r
+memory_text o image r = option_map_or (span_lines (shown_last image r)) o.memory []

@@ -3,7 +3,7 @@
 -- Profile: a core that has no turns need not end by a BREAK. A requirement needs no other option:
 -- what it asks of uses or races is looked for if it is asked for.
 use Rattle.std.specs.Prelude.{◌≡◌, ℕ, if◌then◌else◌, Option, Some, None, List}
-use Rattle.std.specs.Prelude.{[], ◌∷◌, ◌++◌, codes}
+use Rattle.std.specs.Prelude.{[], ◌∷◌, ◌++◌, codes, unwrap_or}
 use Rattle.std.specs.List.{concat}
 use Rattle.std.specs.Fmt.{decimal}
 use Rattle.xt_image.specs.declared.image.Image.{Image}
@@ -69,14 +69,9 @@ abbrev pub unmet_secret : Secrets → Option (List ℕ)
 unmet_secret (secrets.Whole n m) = None
 unmet_secret (secrets.Leaks first) = Some (leak_line first)
 
--- the ranges of the words; if no word says so, nothing is secret
-abbrev pub secret_of : Option SecretOptions → List (ℕ × ℕ)
-secret_of None = []
-secret_of (Some s) = s.secret
-
-abbrev pub public_of : Option SecretOptions → List (ℕ × ℕ)
-public_of None = []
-public_of (Some s) = s.public
+-- what the words say to be secret; if no word says so, nothing is
+abbrev pub secrets_of : Option SecretOptions → SecretOptions
+secrets_of said = unwrap_or said (record { secret = []; public = [] })
 
 -- ---- a list of requirements
 
@@ -96,7 +91,7 @@ IsUnmetBy s requirement.RaceFree image r line =
 IsUnmetBy s requirement.Exit0 image r line = line ≡ unmet_exit image r
 IsUnmetBy s requirement.Secret image r line =
     (found : Secrets)
-    × IsSecretsOf image r (secret_of s) (public_of s) found
+    × IsSecretsOf image r (secrets_of s).secret (secrets_of s).public found
     × (line ≡ unmet_secret found)
 
 -- this line, or else what follows
@@ -115,10 +110,5 @@ IsUnmetIn s (one ∷ rest) image r line =
     × IsThisOr this (IsUnmetIn s rest image r) line
 
 -- the same of the words of a run, which need not require anything
-abbrev pub IsUnmetFor :
-    Option SecretOptions → Option (List Requirement) → Image → Run → Option (List ℕ) → Type 0
-IsUnmetFor s None image r line = line ≡ None
-IsUnmetFor s (Some list) image r line = IsUnmetIn s list image r line
-
 abbrev pub IsUnmet : RunOptions → Image → Run → Option (List ℕ) → Type 0
-IsUnmet o image r line = IsUnmetFor o.secrets o.required image r line
+IsUnmet o image r line = IsUnmetIn o.secrets (unwrap_or o.required []) image r line

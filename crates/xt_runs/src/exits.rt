@@ -1,11 +1,12 @@
 //! How the cores of a run end: by `break 1, 15` with 0 in a2, or otherwise.
 ghost use Rattle.std.specs.Prelude.{◌≡◌, ◌<◌, IfOk, string_bytes};
+ghost use Rattle.std.specs.Option.{option_or};
 ghost use Rattle.xt_core.specs.Runs.{IsRunOf};
 ghost use Rattle.xt_map.specs.Fetching.{fetch_at};
 ghost use Rattle.xt_image.specs.ImageParts.{IsWellFormed};
 ghost use Rattle.xt_map.specs.Memory.{constant_byte};
 ghost use Rattle.xt_replay.specs.Shown.{state_in};
-ghost use Rattle.xt_runs.specs.Exits.{break_line, first_line, is_exit, is_exit_at, is_used_up, stop_line, unmet_at, unmet_exit, unmet_in_state, unmet_of_core, value_line};
+ghost use Rattle.xt_runs.specs.Exits.{break_line, is_exit, is_exit_at, is_used_up, stop_line, unmet_at, unmet_exit, unmet_in_state, unmet_of_core, value_line};
 
 use crate::memory::at_end;
 use std::alloc::{AllocError, Global};
@@ -139,7 +140,7 @@ fn unmet_of_core(
 
 // This line, or else the other.
 fn first_line(first: Option<Text>, second: Option<Text>) -> Option<Text>
-    ensures { result ≡ first_line first second }
+    ensures { result ≡ option_or first second }
 {
     match first {
         Some(line) => Some(line),
@@ -154,7 +155,7 @@ fn unmet_of_cores(
     code: &Constants,
     state: &State,
 ) -> Result<Option<Text>, AllocError>
-    ensures { IfOk result (λ line. line ≡ first_line
+    ensures { IfOk result (λ line. line ≡ option_or
         (unmet_of_core 0 run.now.options.turns0 run.now.trace0.stop (unmet_in_state 0 (constant_byte code.now) (state_in 0 state.now)))
         (unmet_of_core 1 run.now.options.turns1 run.now.trace1.stop (unmet_in_state 1 (constant_byte code.now) (state_in 1 state.now)))) }
 {

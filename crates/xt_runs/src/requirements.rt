@@ -1,6 +1,6 @@
 //! Which requirement a run does not meet.
 ghost use Rattle.std.specs.Prelude.{◌≡◌, IfOk, IfSome};
-ghost use Rattle.xt_runs.specs.Requirements.{IsUnmet, IsUnmetBy, IsUnmetIn, public_of, secret_of, unmet_break, unmet_race, unmet_secret, unmet_used, unmet_whole};
+ghost use Rattle.xt_runs.specs.Requirements.{IsUnmet, IsUnmetBy, IsUnmetIn, secrets_of, unmet_break, unmet_race, unmet_secret, unmet_used, unmet_whole};
 ghost use Rattle.xt_runs.specs.Verdicts.{whole_of};
 ghost use Rattle.xt_core.specs.Runs.{IsRunOf};
 ghost use Rattle.xt_image.specs.ImageParts.{IsWellFormed};
@@ -77,7 +77,7 @@ fn secrets_by(
 ) -> Result<Secrets, AllocError>
     requires image { IsWellFormed image.now }
     requires run { IsRunOf image.now run.now }
-    ensures { IfOk result (IsSecretsOf image.now run.now (secret_of secrets.now) (public_of secrets.now)) }
+    ensures { IfOk result (IsSecretsOf image.now run.now (secrets_of secrets.now).secret (secrets_of secrets.now).public) }
 {
     match secrets {
         Some(it) => secrets_of(

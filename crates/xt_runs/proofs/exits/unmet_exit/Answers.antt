@@ -1,4 +1,5 @@
 use Rattle.std.proofs.Common.{◌≡◌, ℕ, List, Option, IfOk, ap₂, ◌∙◌, subst}
+use Rattle.std.specs.Option.{option_or}
 use Rattle.xt_map.specs.declared.segment.Segment.{Segment}
 use Rattle.xt_map.specs.Memory.{constant_byte}
 use Rattle.xt_image.specs.declared.image.Image.{Image}
@@ -6,7 +7,7 @@ use Rattle.xt_trace.specs.declared.run.Run.{Run}
 use Rattle.xt_trace.specs.declared.trace.Stop.{Stop}
 use Rattle.xt_core.specs.Runs.{code_of}
 use Rattle.xt_replay.specs.Shown.{Shown, state_in}
-use Rattle.xt_runs.specs.Exits.{first_line, last_state, unmet_in_state, unmet_of_core}
+use Rattle.xt_runs.specs.Exits.{last_state, unmet_in_state, unmet_of_core}
 use Rattle.xt_runs.specs.Memory.{shown_last}
 use Rattle.xt_runs.proofs.exits.unmet_exit.Goals as goal
 
@@ -24,4 +25,4 @@ returns c =
     let zero = core_says 0 r.options.turns0 r.trace0.stop image r c.in_ok-code.code c.state-state.result code_is state_is in
     let one = core_says 1 r.options.turns1 r.trace1.stop image r c.in_ok-code.code c.state-state.result code_is state_is in
     let P : Option (List ℕ) → Type 0 = λ line. IfOk c.unmet_of_cores.result (λ made. made ≡ line) in
-    subst P (ap₂ (λ (a b : Option (List ℕ)). first_line a b) zero one) c.unmet_of_cores.ensures
+    subst P (ap₂ (λ (a b : Option (List ℕ)). option_or a b) zero one) c.unmet_of_cores.ensures
