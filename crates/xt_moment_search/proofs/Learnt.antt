@@ -1,6 +1,6 @@
 -- What is known after a turn where nothing is known of the clocks.
 use Rattle.std.proofs.Common.{◌≡◌, ◌≢◌, ℕ, Bool, true, false, cond, eqb, ◌||◌, Option, Some, None}
-use Rattle.std.proofs.Common.{refl, sym, ap, ◌∙◌, subst, ⊎_elim}
+use Rattle.std.proofs.Common.{refl, sym, ap, ◌∙◌, subst, ⊎_elim, arith}
 use Rattle.std.proofs.lemmas.Bool.{cases_eq, cond-false, eqb-true, or_cases, true≢false}
 use Rattle.xt_isa.specs.declared.Insn.{Insn}
 use Rattle.xt_isa.specs.declared.Insn.TheVariants as insn
@@ -25,7 +25,7 @@ use Rattle.xt_simulation.specs.Learning.{special_given, with_mask}
 use Rattle.xt_simulation.proofs.SecretSpecials.{differs, with_other}
 use Rattle.xt_secret_walk.specs.declared.masks.CoreMasks.{CoreMasks}
 use Rattle.xt_secret_walk.specs.SeenWords.{knowledge_of, special_mask}
-use Rattle.xt_moments.specs.MomentLaws.{IsMomentKnown, is_clock, moment_known}
+use Rattle.xt_moments.specs.MomentLaws.{IsMomentKnown, is_clock, may_be_lost, moment_known}
 use Rattle.xt_moments.proofs.Masks.{compare0_past, compare1_past, compare2_past, count_past}
 use Rattle.xt_moments.proofs.Masks.{others_past, ticked_other}
 use Rattle.xt_moment_search.specs.KnownCores.{moment_known_of, reads_clock, with_hidden}
@@ -70,6 +70,35 @@ module _ (c : CoreMasks) (s : State) (write : Option RegWrite) (base reply : ℕ
 
   -- ---- special registers
 
+  -- EPC1 keeps its mask
+  given_epc1 : (o : Option (ℕ × ℕ)) (given : ℕ) (special : ℕ → ℕ)
+      → special_given o given special 177 ≡ special 177
+  given_epc1 None given special = refl
+  given_epc1 (Some p) given special = by_marks (holds_marks p.1) refl
+    where
+      by_marks : (b : Bool) → holds_marks p.1 ≡ b
+          → cond b (with_mask p.1 given special) special 177 ≡ special 177
+      by_marks true e = with_other p.1 given special 177
+          (λ is. differs p.1 177 holds_marks e refl (sym is))
+      by_marks false e = refl
+
+  epc1_past : (o : Option Insn) → (past o).special 177 ≡ all_bits
+  unfolding known_past
+  epc1_past None = ticked_other m h s write base reply m.special 177 (λ e. omega (arith, e))
+      (λ e. omega (arith, e))
+  epc1_past (Some i) =
+      let x = (first_word i m s).mask in
+      ticked_other m h s write base reply (special_given (moved_to i) x m.special) 177
+      (λ e. omega (arith, e)) (λ e. omega (arith, e))
+      ∙ given_epc1 (moved_to i) x m.special
+
+  unlost : (n : ℕ) → n ≢ 177 → holds_marks n ≡ false → may_be_lost n ≡ false
+  unlost n d marks = by_number (eqb n 177) refl
+    where
+      by_number : (b : Bool) → eqb n 177 ≡ b → (b || holds_marks n) ≡ false
+      by_number true e = absurd (d (eqb-true n 177 e))
+      by_number false e = marks
+
   module _ (d : CoreMasks) (o : Option Insn)
       (same : (n : ℕ) → holds_marks n ≡ true → special_mask d n ≡ (past o).special n) where
     abbrev Is : ℕ → Type 0
@@ -82,7 +111,11 @@ module _ (c : CoreMasks) (s : State) (write : Option RegWrite) (base reply : ℕ
         by_marks true marks = same n marks
         by_marks false marks =
             cond-false (holds_marks n) _ all_bits marks
-            ∙ sym (others_past m h s write base reply o n other marks clock)
+            ∙ sym (⊎_elim
+            (λ (is : n ≡ 177). subst (λ j. (past o).special j ≡ all_bits) (sym is) (epc1_past o))
+            (λ (lost : n ≢ 177). others_past m h s write base reply o n other
+            (unlost n lost marks) clock)
+            (cases_eq n 177))
 
     apart : (n : ℕ) → n ≢ 226 → Is n
     apart n other = by_clock (is_clock n) refl ∙ sym (with_other 226 all_bits (past o).special n

@@ -29,7 +29,9 @@ use Rattle.xt_secret_walk.specs.declared.seen.Seen.{Seen}
 use Rattle.xt_secret_walk.specs.SeenWords.{IsGoodSeen, executed_in, knowledge_of, seen_of, stored_of}
 use Rattle.xt_secret_walk.specs.SeenWords.{turn_uses}
 use Rattle.xt_moments.specs.Moments.{armed_in, arms, with_timers}
-use Rattle.xt_moments.specs.MomentLaws.{IsMomentKnown, executes_clock, moment_known, moment_used}
+use Rattle.xt_moments.specs.MomentLaws.{IsMomentKnown, entered_known, enters, executes_clock}
+use Rattle.xt_moments.specs.MomentLaws.{moment_known, moment_used}
+use Rattle.xt_moments.proofs.Masks.{entered_whole}
 use Rattle.xt_moment_search.specs.KnownCores.{IsSeen, deciding, insn_of, known_byte, moment_known_of}
 use Rattle.xt_moment_search.specs.KnownCores.{seen_arms}
 use Rattle.xt_moment_search.specs.Sides.{KnownCore}
@@ -217,7 +219,10 @@ module _ (code : ℕ → ℕ) (opening cleared : MemoryContents) (s : State)
       shaped = h.shaped;
       hidden = h.memory;
       used = used;
-      known = known;
+      known = λ i k.
+          let b = enters t.0.kind s.control.ps in
+          sym (entered_whole b (moment_known_of new.masks) refl)
+          ∙ ap (entered_known b) (known i k);
       bytes = bytes;
       state = subst (λ (y : State). StatesAgree (moment_known_of new.masks) y new.state)
           (λ j. with_timers (h.before_is j) (arms_now j) (left j)) h.state;

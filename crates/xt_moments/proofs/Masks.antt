@@ -1,7 +1,7 @@
 -- What is known after a turn of the registers of time.
 use Rattle.std.proofs.Common.{◌≡◌, ◌≢◌, ℕ, ◌+◌, Bool, true, false, cond, eqb, ◌&&◌, Option, Some}
 use Rattle.std.proofs.Common.{None, refl, sym, ap, ◌∙◌, ⊎_elim, subst, arith}
-use Rattle.std.proofs.lemmas.Bool.{cases_eq, true≢false}
+use Rattle.std.proofs.lemmas.Bool.{cases_eq, or_parts, true≢false}
 use Rattle.xt_isa.specs.declared.Insn.{Insn}
 use Rattle.xt_special.specs.Access.{timer_bit, without_bits}
 use Rattle.xt_trace.specs.declared.record.RegWrite.{RegWrite}
@@ -14,7 +14,8 @@ use Rattle.xt_timeless.specs.Time.{timer_bits}
 use Rattle.xt_simulation.specs.Knowledge.{AreMasks, Knowledge, first_word, is_apart}
 use Rattle.xt_simulation.specs.Learning.{known_past, special_given, ticked_masks, with_mask}
 use Rattle.xt_simulation.proofs.SecretSpecials.{differs, unequal, with_other}
-use Rattle.xt_moments.specs.MomentLaws.{IsMomentKnown, is_clock, moment_known}
+use Rattle.xt_moments.specs.MomentLaws.{IsMomentKnown, entered_known, is_clock}
+use Rattle.xt_moments.specs.MomentLaws.{may_be_lost, moment_known}
 
 -- a special register that keeps nothing secret keeps its mask
 given_other : (o : Option (ℕ × ℕ)) (given : ℕ) (special : ℕ → ℕ) (n : ℕ) → holds_marks n ≡ false
@@ -91,7 +92,7 @@ module _ (m : Knowledge) (h : IsMomentKnown m) (s : State) (write : Option RegWr
         (cond (unequal n 226 d i) (cut_by (special 234) special 2 (cut_by (special 234) special 1
         (cut_by (special 234) special 0 (special n)))) (special n))
 
-    pub others_past : (o : Option Insn) (n : ℕ) → n ≢ 226 → holds_marks n ≡ false → is_clock n ≡ false
+    pub others_past : (o : Option Insn) (n : ℕ) → n ≢ 226 → may_be_lost n ≡ false → is_clock n ≡ false
         → (known_past o write base reply m s).special n ≡ all_bits
     unfolding known_past
     others_past None n d unmarked other =
@@ -100,7 +101,8 @@ module _ (m : Knowledge) (h : IsMomentKnown m) (s : State) (write : Option RegWr
     others_past (Some i) n d unmarked other =
         ticked_other (special_given (moved_to i) (first_word i m s).mask m.special) n d
         (λ is. true≢false (sym (ap is_clock is) ∙ other))
-        ∙ given_other (moved_to i) (first_word i m s).mask m.special n unmarked
+        ∙ given_other (moved_to i) (first_word i m s).mask m.special n
+        (or_parts (eqb n 177) (holds_marks n) unmarked).1
         ∙ h.others n unmarked other
 
     -- of the bits of INTERRUPT those that no timer sets are known after any turn
@@ -135,3 +137,41 @@ module _ (m : Knowledge) (h : IsMomentKnown m) (s : State) (write : Option RegWr
           ccompare1 = compare1_past o;
           ccompare2 = compare2_past o;
         }
+
+-- once EPC1 is known
+pub entered_stays : (b : Bool) (k : Knowledge) → IsMomentKnown k
+    → IsMomentKnown (entered_known b k)
+entered_stays false k h = h
+entered_stays true k h = record {
+  masks = record {
+    regs = h.masks.regs;
+    special = λ n. ⊎_elim
+        (λ (is : n ≡ 177). subst (λ j. IsWord (with_mask 177 all_bits k.special j)) (sym is)
+        (omega arith))
+        (λ (other : n ≢ 177). subst IsWord (sym (with_other 177 all_bits k.special n other))
+        (h.masks.special n))
+        (cases_eq n 177);
+    threadptr = h.masks.threadptr;
+    apart = λ n apart. with_other 177 all_bits k.special n (differs n 177 is_apart apart refl)
+        ∙ h.masks.apart n apart;
+  };
+  others = λ n lost other. with_other 177 all_bits k.special n
+      (λ is. true≢false (sym (ap may_be_lost is) ∙ lost))
+      ∙ h.others n lost other;
+  ccount = h.ccount;
+  ccompare0 = h.ccompare0;
+  ccompare1 = h.ccompare1;
+  ccompare2 = h.ccompare2;
+}
+
+-- it is known already
+pub entered_whole : (b : Bool) (k : Knowledge) → k.special 177 ≡ all_bits → entered_known b k ≡ k
+entered_whole false k whole = refl
+entered_whole true k whole = λ i. record k { special = λ n. same n i }
+  where
+    same : (n : ℕ) → with_mask 177 all_bits k.special n ≡ k.special n
+    same n = ⊎_elim
+        (λ (is : n ≡ 177). subst (λ j. with_mask 177 all_bits k.special j ≡ k.special j) (sym is)
+        (sym whole))
+        (λ (d : n ≢ 177). with_other 177 all_bits k.special n d)
+        (cases_eq n 177)

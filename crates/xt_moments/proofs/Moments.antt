@@ -1,7 +1,8 @@
 -- The law of one turn of a core whose timers fire at any moment.
 use Rattle.std.proofs.Common.{◌≡◌, ◌≢◌, ℕ, Bool, true, false, ◌||◌, bit_and, bit_or}
-use Rattle.std.proofs.Common.{refl, sym, ◌∙◌, subst, arith}
-use Rattle.std.proofs.lemmas.Bool.{and_parts}
+use Rattle.std.proofs.Common.{⊎_elim, refl, sym, ap, ◌∙◌, subst, arith}
+use Rattle.std.proofs.lemmas.Bool.{and_parts, cases_eq}
+use Rattle.std.proofs.lemmas.List.{get_or-set_other}
 use Rattle.xt_special.specs.Access.{without_bits}
 use Rattle.xt_special.specs.Control.{special_of}
 use Rattle.xt_map.specs.Code.{AreBytes}
@@ -19,7 +20,7 @@ use Rattle.xt_uses.proofs.Agreeing.{agree_none}
 use Rattle.xt_uses.proofs.Owb.{all_agree_word}
 use Rattle.xt_timeless.specs.Time.{timer_bits}
 use Rattle.xt_simulation.specs.Knowledge.{Knowledge, StatesAgree}
-use Rattle.xt_simulation.specs.Learning.{known_past}
+use Rattle.xt_simulation.specs.Learning.{known_past, with_mask}
 use Rattle.xt_simulation.specs.SecretLaws.{FitsAccess, TurnsAgree, executed}
 use Rattle.xt_simulation.specs.TurnUses.{found_used, turn_used}
 use Rattle.xt_simulation.proofs.Controls.{Commons}
@@ -29,10 +30,11 @@ use Rattle.xt_simulation.proofs.Readings.{Two, other}
 use Rattle.xt_simulation.proofs.SecretSpecials.{Specials, set_specials, with_other}
 use Rattle.xt_simulation.proofs.Staying.{masks_stay}
 use Rattle.xt_moments.specs.Moments.{armed_in, arms, interrupt_past, with_special}
-use Rattle.xt_moments.specs.MomentLaws.{IsMomentKnown, MomentTurnsAgree, executes_clock}
-use Rattle.xt_moments.specs.MomentLaws.{moment_used}
+use Rattle.xt_moments.specs.MomentLaws.{IsMomentKnown, MomentTurnsAgree, entered_known}
+use Rattle.xt_moments.specs.MomentLaws.{enters, executes_clock, left_by, moment_known, moment_used}
 use Rattle.xt_moments.proofs.Clocks.{clocks_agree}
-use Rattle.xt_moments.proofs.Masks.{interrupt_mask, moment_stays}
+use Rattle.xt_moments.proofs.Entered.{turn_puts}
+use Rattle.xt_moments.proofs.Masks.{entered_stays, interrupt_mask, moment_stays}
 
 -- ---- a special register is set
 
@@ -146,6 +148,40 @@ turns_agree code m s t reply v w bytes h f g e small vs ws replies fits interrup
         turns_with_known_uses_agree code m s t reply v w bytes h.masks f g e small vs ws replies
         fits used
 
+-- where EPC1 is known then
+entered_agree : (b : Bool) (k : Knowledge) (x y : State) → StatesAgree k x y
+    → (b ≡ true → special_of x.control 177 ≡ special_of y.control 177)
+    → StatesAgree (entered_known b k) x y
+entered_agree false k x y h same = h
+entered_agree true k x y h same = record {
+  pc = h.pc;
+  base = h.base;
+  start = h.start;
+  ps = h.ps;
+  waits = h.waits;
+  regs = h.regs;
+  special = λ n. ⊎_elim
+      (λ (is : n ≡ 177). subst (λ j. AgreeIn (with_mask 177 all_bits k.special j) (special_of
+      x.control j) (special_of y.control j)) (sym is)
+      (like_same all_bits (special_of x.control 177) (special_of y.control 177) (same refl)).bits)
+      (λ (d : n ≢ 177). subst (λ j. AgreeIn j (special_of x.control n) (special_of y.control n))
+      (sym (with_other 177 all_bits k.special n d)) (h.special n))
+      (cases_eq n 177);
+  threadptr = h.threadptr;
+}
+
+-- a turn that enters a vector of level 1 leaves its program counter in EPC1
+epc_left : (code : ℕ → ℕ) (s : State) (reply : ℕ) → IsShaped s
+    → enters (planned_turn code s).kind s.control.ps ≡ true
+    → special_of (left_by code s (turn code s reply)).control 177 ≡ s.control.pc
+epc_left code s reply f is =
+    let x = turn code s reply in
+    let count = f.control.count in
+    get_or-set_other x.1.control.special 226 177
+    (interrupt_past (special_of s.control 226) (arms code s) (special_of x.1.control 226)) 0
+    (λ e. omega (arith, e))
+    ∙ turn_puts s (omega (arith, count)) code reply is
+
 pub moment_turns_agree : MomentTurnsAgree
 moment_turns_agree code m p q a b reply v w bytes h f g e small-a small-b small vs ws replies fits
     used =
@@ -183,12 +219,22 @@ moment_turns_agree code m p q a b reply v w bytes h f g e small-a small-b small 
     226)
     ≡ interrupt_past (special_of t.control 226) (arms code t) (special_of y.1.control 226) =
     λ i. bit_or (rest i) (without_bits (bit_and (before i) timer_bits) (armed i)) in
+    let b = enters x.0.kind s.control.ps in
+    let past = moment_known o x.0.write x.1.base reply m s in
+    let agree : StatesAgree past (left_by code s x) (left_by code t y) =
+    put_agree _ _ x.1 y.1 226 _ _ (turn_shaped code s v bytes fs vs)
+    (turn_shaped code t w bytes ft ws) turns.after (like_same all_bits _ _ interrupt)
+    (λ j d. with_other 226 all_bits k.special j d) in
+    let same : b ≡ true → special_of (left_by code s x).control 177
+    ≡ special_of (left_by code t y).control 177 = λ is.
+    epc_left code s v fs (sym (ap (λ d. enters d s.control.ps) (kind_is code s v)) ∙ is)
+    ∙ est.pc
+    ∙ sym (epc_left code t w ft ((λ i. enters (sym kinds i) (sym est.ps i))
+    ∙ sym (ap (λ d. enters d s.control.ps) (kind_is code s v)) ∙ is)) in
     record {
       turns = turns;
       arms = armed;
-      known = moment_stays m h s x.0.write x.1.base reply o
-          (masks_stay code m s reply v bytes h.masks small);
-      after = put_agree _ _ x.1 y.1 226 _ _ (turn_shaped code s v bytes fs vs)
-          (turn_shaped code t w bytes ft ws) turns.after (like_same all_bits _ _ interrupt)
-          (λ j d. with_other 226 all_bits k.special j d);
+      known = entered_stays b past (moment_stays m h s x.0.write x.1.base reply o
+          (masks_stay code m s reply v bytes h.masks small));
+      after = entered_agree b past (left_by code s x) (left_by code t y) agree same;
     }

@@ -48,7 +48,7 @@ use Rattle.xt_moments.specs.WorldLaws.{begun, bytes_known, core_known, core_used
 use Rattle.xt_moments.specs.WorldLaws.{move_learned, reply_known, turn_of}
 use Rattle.xt_moments.proofs.Moments.{moment_turns_agree, put_agree, put_shaped}
 
-answer_small : (m : MemoryContents) (a : Option Access) → IsMemory m → IsServed a
+pub answer_small : (m : MemoryContents) (a : Option Access) → IsMemory m → IsServed a
     → answer a m < 2 ^ 32
 answer_small m None r served = omega arith
 answer_small m (Some a) r served = to_small m a r served

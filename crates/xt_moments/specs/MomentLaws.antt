@@ -2,14 +2,18 @@
 -- CCOMPARE0 to CCOMPARE2, are not known, and INTERRUPT is. Two cores that agree in what is known
 -- make turns that agree in what is known then, whatever CCOUNT was, if the turn of one uses known
 -- bits alone.
-use Rattle.std.specs.Prelude.{◌≡◌, ℕ, Bool, true, false, ◌==◌, ◌&&◌, ◌||◌, Option, Some, None}
+use Rattle.std.specs.Prelude.{◌≡◌, ℕ, Bool, true, false, ◌==◌, ◌&&◌, ◌||◌, not, if◌then◌else◌}
+use Rattle.std.specs.Prelude.{Option, Some, None}
 use Rattle.xt_isa.specs.declared.Insn.{Insn}
 use Rattle.xt_isa.specs.declared.Insn.TheVariants as insn
 use Rattle.xt_isa.specs.declared.system.System.TheVariants as system
 use Rattle.xt_isa.specs.declared.system.SpecialName.TheVariants as SpecialName
+use Rattle.xt_special.specs.declared.ps.Ps.{Ps}
 use Rattle.xt_special.specs.Control.{special_of}
 use Rattle.xt_special.specs.Numbers as number
 use Rattle.xt_trace.specs.declared.record.RegWrite.{RegWrite}
+use Rattle.xt_trace.specs.declared.record.StepKind.{StepKind}
+use Rattle.xt_trace.specs.declared.record.StepKind.TheVariants as kind
 use Rattle.xt_trace.specs.declared.record.StepRecord.{StepRecord}
 use Rattle.xt_map.specs.Code.{AreBytes}
 use Rattle.xt_map.specs.Fetching.{fetch_at}
@@ -35,11 +39,14 @@ is_clock n =
     n == number.ccount
     || (n == number.ccompare 0 || (n == number.ccompare 1 || n == number.ccompare 2))
 
--- nothing of a clock, and each bit of the other special registers but EXCSAVE1 to EXCSAVE7 and
--- MISC0 to MISC3
+-- EPC1, EXCSAVE1 to EXCSAVE7 and MISC0 to MISC3
+abbrev pub may_be_lost : ℕ → Bool
+may_be_lost n = n == number.epc 1 || holds_marks n
+
+-- nothing of a clock, and each bit of the other special registers but those that may be lost
 pub record IsMomentKnown (m : Knowledge) : Type 0 where
   pub masks : AreMasks m
-  pub others : (n : ℕ) → holds_marks n ≡ false → is_clock n ≡ false → m.special n ≡ all_bits
+  pub others : (n : ℕ) → may_be_lost n ≡ false → is_clock n ≡ false → m.special n ≡ all_bits
   pub ccount : m.special number.ccount ≡ 0
   pub ccompare0 : m.special (number.ccompare 0) ≡ 0
   pub ccompare1 : m.special (number.ccompare 1) ≡ 0
@@ -51,8 +58,22 @@ moment_known i write base reply m s =
     let k = known_past i write base reply m s in
     record k { special = with_mask number.interrupt all_bits k.special }
 
+-- A turn of this kind puts the program counter into EPC1.
+abbrev pub enters : StepKind → Ps → Bool
+enters (kind.Window vector) ps = true
+enters (kind.Exc cause) ps = not ps.excm
+enters (kind.Interrupt level) ps = level == 1 && not ps.excm
+enters _ ps = false
+
+-- each bit of EPC1 is known where a turn did so
+abbrev pub entered_known : Bool → Knowledge → Knowledge
+entered_known b k =
+    if b then record k { special = with_mask (number.epc 1) all_bits k.special } else k
+
 abbrev pub known_then : (ℕ → ℕ) → ℕ → Knowledge → State → StepRecord × State → Knowledge
-known_then code reply m s x = moment_known (executed code s x.0) x.0.write x.1.base reply m s
+known_then code reply m s x =
+    entered_known (enters x.0.kind s.control.ps)
+    (moment_known (executed code s x.0) x.0.write x.1.base reply m s)
 
 -- ---- what a turn uses
 
