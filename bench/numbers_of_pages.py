@@ -147,8 +147,10 @@ PLACES = [
     (GUIDE, "`xt_judged` #,", lambda: functions("xt_judged")),
     (GUIDE, "`xt_uses` #,", lambda: functions("xt_uses")),
     (GUIDE, "`xt_command_line` #,", lambda: functions("xt_command_line")),
-    (GUIDE, "`xt_outcomes` # and", lambda: functions("xt_outcomes")),
-    (GUIDE, "`xt_rows` #)", lambda: functions("xt_rows")),
+    (GUIDE, "`xt_outcomes` #,", lambda: functions("xt_outcomes")),
+    (GUIDE, "`xt_rows` #,", lambda: functions("xt_rows")),
+    (GUIDE, "`xt_moment_search` # and", lambda: functions("xt_moment_search")),
+    (GUIDE, "`xt_debug` #)", lambda: functions("xt_debug")),
 ]
 
 

@@ -35,7 +35,8 @@ class Errors(unittest.TestCase):
         asked = 0
         for case in cases("ends.txt"):
             line = case.get("line", "").strip()
-            if not line or len(case.get("zeros", "")) > 7:  # of the larger inputs the program is tried elsewhere
+            # (the larger inputs, and words that are no text, are tried elsewhere)
+            if not line or len(case.get("zeros", "")) > 7 or "filled" in case or "raw" in case:
                 continue
             data = bytes(int(case["zeros"])) if case.get("zeros") else bytes.fromhex(case.get("bytes", ""))
             with self.subTest(case["case"]), self.assertRaises(xt.XtError) as caught:

@@ -88,7 +88,7 @@ class Findings(unittest.TestCase):
 
     def test_moments(self) -> None:
         """examples/moment.s: docs/OUTCOMES.md has the three outcomes. In the second the timer fires between the load
-        and the store of the third addition, after which the handler's is lost."""
+        and the store of the first addition, after which the handler's is lost."""
         with tempfile.TemporaryDirectory() as folder:
             path = Path(folder) / "moment.img"
             path.write_bytes(image("moment.s"))
@@ -101,11 +101,11 @@ class Findings(unittest.TestCase):
         self.assertEqual([len(end["moments"]) for end in it["ends"]], [0, 1, 1])
         moment, lost = it["ends"][1]["moments"][0], it["ends"][1]["lost"]
         fields = [moment[name] for name in ("core", "timer", "step", "is_after", "instruction")]
-        self.assertEqual(fields, [0, 0, 20, False, "s32i a4, a2, 0"])
+        self.assertEqual(fields, [0, 0, 9, False, "addi a4, a4, 1"])
         places = [(one["address"], one["load"]["pc"], one["store"]["pc"]) for one in lost]
         self.assertEqual(places, [(0x3FFB0000, 0x400D001C, 0x400D0022)])
         self.assertEqual((it["ends"][2]["lost"], it["stuck"], it["is_settled"]), ([], None, True))
-        self.assertIn("3FFB0000 = 00000003, 3FFB0004 = 00000001 if timer 0 of core 0 fires before step 20\n", lines)
+        self.assertIn("3FFB0000 = 00000003, 3FFB0004 = 00000001 if timer 0 of core 0 fires before step 9\n", lines)
         self.assertIn("what it stores there is lost\n", lines)
 
     def test_stuck_moment(self) -> None:
@@ -116,9 +116,9 @@ class Findings(unittest.TestCase):
             code, found = findings(str(path), "--any-time", "--entry1", "0x400D002C")
         it = next(it for it in found if it["kind"] == "moments")
         self.assertEqual((code, it["finding"], it["answer"], len(it["ends"])), (1, True, "all", 1))
-        self.assertEqual(it["stuck"]["order"], "0*8,0!0")
+        self.assertEqual(it["stuck"]["order"], "0*1,1*1,0*7,0!0,0*12")
         moment = it["stuck"]["moments"][0]
-        self.assertEqual((moment["step"], moment["is_after"], moment["instruction"]), (7, True, "l32i a4, a2, 0"))
+        self.assertEqual((moment["step"], moment["is_after"], moment["instruction"]), (8, False, "bnez a4, 0x400D0025"))
 
     def test_other_race(self) -> None:
         """Core 1 stores into the word only if core 0 has raised the flag before, so with seed 3 there is no race."""

@@ -13,8 +13,8 @@ use Rattle.xt_report.proofs.Quiet.{is_untouched, keeps_same, still, takes_nothin
 use Rattle.xt_trace.specs.declared.run.Run.{Run}
 use Rattle.xt_runs.specs.declared.outcome.Outcome.{Outcome}
 use Rattle.xt_runs.specs.Runs.{Generates, Runs, image_limit}
-use Rattle.xt_session.specs.Calls.{Sessions}
-use Rattle.xt_session.specs.Session.{session_text}
+use Rattle.xt_tools.specs.Calls.{Sessions}
+use Rattle.xt_tools.specs.Session.{session_text}
 use Rattle.xt_cli.specs.declared.tool.Job.{Job}
 use Rattle.xt_cli.specs.declared.orders.Order.{Order}
 use Rattle.xt_cli.specs.declared.orders.Order.TheVariants as order

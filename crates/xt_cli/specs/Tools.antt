@@ -25,7 +25,7 @@ use Rattle.xt_report.specs.declared.status.Status.{Status}
 use Rattle.xt_report.specs.declared.status.Status.TheVariants as status
 use Rattle.xt_report.specs.Calls.{Ends, IsUntouched, ReadsWhole, TakesWithin}
 use Rattle.xt_report.specs.Inputs.{image_refusal, recording_refusal}
-use Rattle.xt_session.specs.Calls.{Sessions}
+use Rattle.xt_tools.specs.Calls.{Sessions}
 use Rattle.xt_tools.specs.Commands as commands
 use Rattle.xt_tools.specs.Commands.{IsAssembled, IsCountsTold, IsListed}
 use Rattle.xt_tools.specs.Commands.{IsRaceTold, converted_image, elf_refusal, events_output}

@@ -20,10 +20,9 @@ use xt_image::{Image, well_formed_is_placed};
 use xt_io::{ReadError, Sink, Source, read_to_limit};
 use xt_map::Text;
 use xt_report::{IMAGE_LIMIT, RECORDING_LIMIT, Status, recording_in, status_after, write_text};
-use xt_session::session;
 use xt_tools::{
     ELF_LIMIT, TEXT_LIMIT, check, converted_file, counts, events, image_file, list, map_text,
-    migrate, profile, race, secrets, trace, uses,
+    migrate, profile, race, secrets, session, trace, uses,
 };
 use xt_trace::Run;
 use xt_uses::Discipline;

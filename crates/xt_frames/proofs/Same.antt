@@ -1,5 +1,5 @@
 -- What is equal part by part is equal.
-use Rattle.std.proofs.Common.{◌≡◌, ℕ, ◌<◌, Bool, true, false, Option, Some, None, List, [], ◌∷◌, suc, length, get_or, refl, sym, ap, ◌∙◌, arith}
+use Rattle.std.proofs.Common.{◌≡◌, ℕ, ◌<◌, Bool, true, false, Option, Some, None, List, [], ◌∷◌, suc, length, get_or, map, reverse, refl, sym, ap, ◌∙◌, arith}
 use Rattle.std.specs.Bool.{Decides}
 use Rattle.std.specs.Option.{option_eq}
 use Rattle.std.specs.Prelude.{nat_eq, slice_get}
@@ -10,6 +10,9 @@ use Rattle.std.proofs.lemmas.List.{ext_get_or}
 use Rattle.std.proofs.lemmas.Slice.Eq.{slice_eq-Decides}
 use Rattle.xt_special.specs.declared.ps.Ps.{Ps}
 use Rattle.xt_special.specs.Values.{Specials}
+use Rattle.xt_frames.specs.KeptFrameState.{frame_of, frames_of}
+use Rattle.xt_frames.specs.declared.view.Caller.{Caller}
+use Rattle.xt_frames.proofs.Newest.{nobody}
 
 options : (x y : Option ℕ) → Decides (option_eq nat_eq x y) (x ≡ y)
 options None None = (λ h. refl, λ h. refl)
@@ -41,3 +44,17 @@ same_items {A} (x ∷ xs) (y ∷ ys) e h =
 
     some_same : (x y : A) → Some x ≡ Some y → x ≡ y
     some_same x y e = ap (or x) e
+
+-- ---- callers, of which more is there than is kept
+same_mapped : (xs ys : List Caller) → length xs ≡ length ys → ((k : ℕ) → k < length xs → frame_of (get_or xs k nobody) ≡ frame_of (get_or ys k nobody)) → map frame_of xs ≡ map frame_of ys
+same_mapped [] [] e h = refl
+same_mapped [] (y ∷ ys) e h = absurd (omega (arith, e))
+same_mapped (x ∷ xs) [] e h = absurd (omega (arith, e))
+same_mapped (x ∷ xs) (y ∷ ys) e h =
+    let first : frame_of x ≡ frame_of y = h 0 (omega arith) in
+    let rest : map frame_of xs ≡ map frame_of ys = same_mapped xs ys (omega (arith, e)) (λ k less. h (suc k) (omega (arith, less))) in
+    λ i. first i ∷ rest i
+
+pub same_frames : (xs ys : List Caller) → length xs ≡ length ys → ((k : ℕ) → k < length xs → frame_of (get_or xs k nobody) ≡ frame_of (get_or ys k nobody)) → frames_of xs ≡ frames_of ys
+unfolding frames_of
+same_frames xs ys e h = ap reverse (same_mapped xs ys e h)

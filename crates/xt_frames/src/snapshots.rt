@@ -1,8 +1,10 @@
 //! Copies of a core of the machine with unbounded frames.
 #![tactic(auto)]
 
-ghost use Rattle.std.specs.Prelude.{◌≡◌, ◌≤◌, true, IfOk, length, vec_capacity};
+ghost use Rattle.std.specs.Prelude.{◌≡◌, ◌≢◌, ◌≤◌, ◌<◌, true, None, IfOk, OnOk, length, slice_set, vec_capacity};
+ghost use Rattle.xt_frames.specs.KeptFrameState.{frame_of, frames_of};
 ghost use Rattle.xt_frames.specs.Nesting.{current};
+ghost use Rattle.xt_frames.specs.Stacks.{AreFrames};
 
 use crate::breach::Limits;
 use crate::frames::Frames;
@@ -81,16 +83,27 @@ pub(crate) fn is_same_ps(a: Ps, b: Ps) -> bool
     a == b
 }
 
-// Whether all special registers are seen to be equal.
+// Whether numbers that were equal so far still are, with these two.
+fn are_still_equal(so_far: bool, a: u32, b: u32) -> bool
+    ensures before { result ≡ true → so_far ≡ true }
+    ensures these { result ≡ true → a ≡ b }
+{
+    so_far && a == b
+}
+
+// Whether all special registers are seen to be equal. All are looked at, with no early end, so that several
+// are compared at once.
 fn is_same_special(a: &Special, b: &Special) -> bool
     requires count_a { length a.now.file ≡ 256 }
     requires count_b { length b.now.file ≡ 256 }
     ensures { result ≡ true → a.now ≡ b.now }
 {
+    let mut equal = true;
     for n in 0..256u32 {
-        if a.register(n as u8) != b.register(n as u8) {
-            return false;
-        }
+        equal = are_still_equal(equal, a.register(n as u8), b.register(n as u8));
+    }
+    if !equal {
+        return false;
     }
     is_same_ps(a.ps_fields(), b.ps_fields()) && a.threadptr() == b.threadptr()
 }
@@ -164,15 +177,28 @@ fn is_same_holes(a: &UndefinedParts, b: &UndefinedParts) -> bool
     }
 }
 
-// Whether all callers are seen to be equal.
+// Whether both frames are seen to be equal. A caller has registers beside those that are kept of it.
+fn is_same_caller(a: &Caller, b: &Caller) -> bool
+    requires { a.now.by < 4 }
+    ensures { result ≡ true → frame_of a.now ≡ frame_of b.now }
+{
+    if a.by != b.by {
+        return false;
+    }
+    let many = 4 * a.by as usize;
+    are_same_values(&a.kept[..many], &b.kept[..many])
+}
+
+// Whether all frames are seen to be equal.
 fn are_same(a: &[Caller], b: &[Caller]) -> bool
-    ensures { result ≡ true → a.now ≡ b.now }
+    requires { AreFrames (frames_of a.now) }
+    ensures { result ≡ true → frames_of a.now ≡ frames_of b.now }
 {
     if a.len() != b.len() {
         return false;
     }
     for n in 0..a.len() {
-        if a[n].by != b[n].by || !are_same_values(&a[n].kept, &b[n].kept) {
+        if !is_same_caller(&a[n], &b[n]) {
             return false;
         }
     }
@@ -195,6 +221,25 @@ impl Frames {
             callers: copied(alloc, &self.callers)?,
             fresh: self.fresh && self.next == u64::from(index),
         })
+    }
+
+    /// Becomes the core that was copied, in the same memory if both stacks have the same size. The only error
+    /// is running out of memory.
+    pub fn reload(&mut self, alloc: Global, copy: &Snapshot) -> Result<(), AllocError>
+        ensures { OnOk result (self.new ≡ copy.now) }
+    {
+        if self.limits.hi - self.limits.lo != copy.limits.hi - copy.limits.lo {
+            *self = copy.frames(alloc)?;
+            return Ok(());
+        }
+        put(&mut self.callers, &copy.callers);
+        self.core = copy.core;
+        self.limits = copy.limits;
+        self.view = copy.view;
+        self.holes = copy.holes;
+        self.fresh = copy.fresh;
+        self.next = 0;
+        Ok(())
     }
 
     /// What the core is judged by.
@@ -237,6 +282,18 @@ impl Snapshot {
             callers: copied(alloc, &self.callers)?,
             fresh: self.fresh,
         })
+    }
+
+    /// Takes its value from a register, which has none from now on. In a nested interrupt it is one of those that
+    /// are kept.
+    ///
+    /// Conditions: the register is one of a0 to a15, and not a1.
+    pub fn forget(&mut self, number: u8)
+        requires range { number < 16 }
+        requires other { number ≢ 1 }
+        ensures { self.new ≡ record self.old { state = record self.old.state { seen = slice_set self.old.state.seen number None } } }
+    {
+        self.view.put(number, None);
     }
 
     /// What the next step finds, but for the callers: the state of a nested interrupt where there is one.

@@ -1,22 +1,37 @@
 -- The judge of one core past a record, from what the program knows of it.
-use Rattle.std.proofs.Common.{◌≡◌, ℕ, Bool, true, false, cond, Ok, Err, None, List, refl, sym, ap, ◌∙◌, subst}
+use Rattle.std.proofs.Common.{◌≡◌, ℕ, Bool, true, false, cond, Ok, Err, Option, None, List, length, refl, sym, ap, ◌∙◌, subst}
 use Rattle.xt_trace.specs.declared.record.StepRecord.{StepRecord}
 use Rattle.xt_frames.specs.declared.kinds.BreachKind.{BreachKind}
 use Rattle.xt_frames.specs.Judging.{Seen, Handled, Judges, Breaks, seen_record}
 use Rattle.xt_frames.specs.SaveAreas.{Range}
-use Rattle.xt_frames.specs.Walked.{Walked}
+use Rattle.xt_frames.specs.Walked.{Walked, fresh_before}
 use Rattle.xt_judged.specs.Kept.{standing_of}
 use Rattle.xt_judged.specs.Lives.{AreApart}
 use Rattle.xt_judged.specs.OwnJudges.{Judge, comes_to, is_within, judge_past, judge_seen}
 use Rattle.xt_judged.specs.Past.{IsOnStack}
-use Rattle.xt_judged.specs.Seen.{IsKnownPast}
+use Rattle.xt_judged.specs.Seen.{IsApartAfter, IsCopied, IsKnownAfter, IsKnownPast}
 use Rattle.xt_judged.specs.Stales.{among, renewed}
 use Rattle.xt_judged.specs.WatchedKept.{judge_of}
+use Rattle.xt_judged.specs.declared.record.Beside.{Beside}
 use Rattle.xt_judged.specs.declared.record.Known.{Known}
 use Rattle.xt_judged.specs.declared.watched.OwnJudge.{OwnJudge}
-use Rattle.xt_judged.specs.declared.watched.Fate.{Fate}
 use Rattle.xt_judged.specs.declared.watched.Fate.TheVariants as fate
+use Rattle.xt_judged.proofs.FewerOrders.{judge_with}
 use Rattle.xt_judged.proofs.Within.{stack_within}
+
+-- a copy of the frames past a record, and what is known beside them
+module _ (b : Beside) (new w : Walked) (is : w ≡ record new { fresh = fresh_before new 1; next = 0 }) (all : length new.state.control.special ≡ 256) where
+  abbrev copied : Known
+  copied = record {
+    standing = record { frames = w; phase = b.phase; whole = ap (λ (x : Walked). length x.state.control.special) is ∙ all; first = ap (λ (x : Walked). x.next) is };
+    stale = b.stale;
+  }
+
+  is_copied : IsCopied new b copied
+  is_copied = record { frames = is; phase = refl; stale = refl }
+
+  pub apart_copied : (other : Option Walked) (old stale : List ℕ) → stale ≡ renewed old b.stale → IsApartAfter other old new (Ok b) → AreApart w other stale
+  apart_copied other old stale e h = subst (λ (l : List ℕ). AreApart w other l) (sym e) (h copied is_copied)
 
 module _ (code : ℕ → ℕ) (other : Range) (c : ℕ) (j : OwnJudge) (rec : StepRecord) where
   abbrev own : Judge
@@ -52,6 +67,14 @@ module _ (code : ℕ → ℕ) (other : Range) (c : ℕ) (j : OwnJudge) (rec : St
 
   pub past_known : (k : Known) → comes_to other rec.access ≡ false → IsOnStack k.standing.frames → IsKnownPast j.standing j.stale alone (Ok k) → with_past k ≡ judge_past code other c own rec
   past_known k e on h = known_seen alone k on h ∙ past_here e
+
+  pub past_copied : (b : Beside) (new w : Walked) (stale : List ℕ) → w ≡ record new { fresh = fresh_before new 1; next = 0 } → length new.state.control.special ≡ 256
+      → stale ≡ renewed j.stale b.stale → comes_to other rec.access ≡ false → IsOnStack new → IsKnownAfter j.standing j.stale new alone (Ok b)
+      → judge_with w b.phase (among stale) j.fate ≡ judge_past code other c own rec
+  past_copied b new w stale is all e apart on h =
+      let there : IsOnStack w = subst IsOnStack (sym is) on in
+      ap (λ (l : List ℕ). judge_with w b.phase (among l) j.fate) e
+      ∙ past_known (copied b new w is all) apart there (h (copied b new w is all) (is_copied b new w is all))
 
   broken_seen : (s : Seen) (kind : BreachKind) → IsKnownPast j.standing j.stale s (Err kind)
       → (let n : Judge = record own { fate = fate.Broke (record { core = c; pc = rec.pc; kind = kind }) } in n) ≡ judge_seen c rec own s

@@ -7,11 +7,12 @@ use Rattle.xt_frames.specs.Breaches.{stale_after, stores_at}
 use Rattle.xt_frames.specs.Judging.{Seen, Handled, Judges, Breaks}
 use Rattle.xt_frames.specs.Stacks.{Moves}
 use Rattle.xt_frames.specs.Walked.{Walked, fresh_before}
+use Rattle.xt_judged.specs.declared.record.Beside.{Beside}
 use Rattle.xt_judged.specs.declared.record.Known.{Known}
 use Rattle.xt_judged.specs.declared.scene.Standing as kept
 use Rattle.xt_judged.specs.declared.seeing.Passed.{Passed}
 use Rattle.xt_judged.specs.Lives.{AreApart, is_live_in}
-use Rattle.xt_judged.specs.Seen.{IsApartPast, IsKnownPast, IsSeenAs, seen_by}
+use Rattle.xt_judged.specs.Seen.{IsApartAfter, IsApartPast, IsKnownAfter, IsKnownPast, IsSeenAs, seen_by}
 use Rattle.xt_judged.specs.Stales.{among, renewed}
 use Rattle.xt_judged.proofs.SeenAs.{and_false, and_true}
 
@@ -73,6 +74,22 @@ module _ (own : kept.Standing) (other : Option Walked) (new : Walked) (stale : L
       live_is a ∙ not_stale (is_live_in new other a) (is_live_in own.frames other a || (among stale a && not (stores_at rec.access a)))
       (sym (after_is h.0 h.1 h.3 a) ∙ t)
   apart_as apart (Breaks kind) h = absurd h
+
+-- the same of each copy of the frames past the record
+module _ (own : kept.Standing) (other : Option Walked) (new : Walked) (stale : List ℕ) (rec : StepRecord) (p : Passed) (b : Beside)
+    (phase : b.phase ≡ p.phase)
+    (same : p.judged ≡ false → b.stale ≡ None)
+    (after_is : p.judged ≡ true → new.bounds ≡ own.frames.bounds → Moves own.frames.state new.state → (a : ℕ)
+    → among (renewed stale b.stale) a ≡ stale_after (is_live_in new other) (is_live_in own.frames other) (among stale) rec.access a) where
+  pub known_after : own.frames.next ≡ 0 → (seen : Seen) → IsSeenAs own.frames new other (among stale) rec seen (Ok p) → IsKnownAfter own stale new seen (Ok b)
+  known_after first seen h = λ k copied.
+      known_as own other new stale rec p k copied.frames (copied.phase ∙ phase) (λ e. copied.stale ∙ same e)
+      (λ judged bounds m a. ap (λ (s : Option (List ℕ)). among (renewed stale s) a) copied.stale ∙ after_is judged bounds m a) first seen h
+
+  pub apart_after : AreApart own.frames other stale → (seen : Seen) → IsSeenAs own.frames new other (among stale) rec seen (Ok p) → IsApartAfter other stale new (Ok b)
+  apart_after apart seen h = λ k copied.
+      apart_as own other new stale rec p k copied.frames (copied.phase ∙ phase) (λ e. copied.stale ∙ same e)
+      (λ judged bounds m a. ap (λ (s : Option (List ℕ)). among (renewed stale s) a) copied.stale ∙ after_is judged bounds m a) apart seen h
 
 -- what is seen of the core's kept frames
 pub seen_of : (code : ℕ → ℕ) (own : kept.Standing) (other : Option Walked) (old new : Walked) (stale : List ℕ) (rec : StepRecord) (r s : Result Passed Breach) → old ≡ own.frames → r ≡ s

@@ -23,7 +23,6 @@ pub mod OneJudge
 pub mod WatchedTurns
 pub mod WatchedMade
 pub mod JudgePast
-pub mod WatchedEvery
 pub mod WatchedScenes
 pub mod WatchedWhole
 pub mod Verdicts
@@ -32,3 +31,7 @@ pub mod Whole
 pub mod Rows
 pub mod Words
 pub mod Windows
+pub mod Fewer
+pub mod FewerJudges
+pub mod FewerOrders
+pub mod FewerTurns

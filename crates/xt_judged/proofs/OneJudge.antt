@@ -7,10 +7,8 @@ use Rattle.xt_trace.specs.declared.record.StepRecord.{StepRecord}
 use Rattle.xt_frames.specs.Frames.{FrameState}
 use Rattle.xt_frames.specs.SaveAreas.{Range, is_live}
 use Rattle.xt_frames.specs.Breaches.{Bounds, loads_stale, some_byte, stale_after, stores_at, touches_save_area}
-use Rattle.xt_frames.specs.declared.kinds.BreachKind.{BreachKind}
 use Rattle.xt_frames.specs.Judging.{Standing, Seen, Handled, Judges, Breaks, live_of, seen_record}
 use Rattle.xt_judged.specs.OwnJudges.{Judge, comes_to, goes, is_within, judge_past, judge_seen, with_known}
-use Rattle.xt_judged.specs.declared.watched.Fate.{Fate}
 use Rattle.xt_judged.specs.declared.watched.Fate.TheVariants as fate
 use Rattle.xt_judged.proofs.Quiet.{IsLike, seen_like}
 use Rattle.xt_judged.proofs.Within.{In, live_in}

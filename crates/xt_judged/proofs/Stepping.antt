@@ -3,14 +3,12 @@ use Rattle.std.proofs.Common.{◌≡◌, ℕ, Bool, true, false, cond, Option, S
 use Rattle.std.specs.Prelude.{replicate}
 use Rattle.std.proofs.lemmas.Bool.{true≢false}
 use Rattle.xt_isa.specs.declared.Insn.{Insn}
-use Rattle.xt_isa.specs.declared.control.Control.TheVariants as control
 use Rattle.xt_special.specs.Control.{special_of}
 use Rattle.xt_special.specs.Access.{without_bits}
 use Rattle.xt_special.specs.Interrupts.{after_interrupt}
 use Rattle.xt_special.specs.Numbers as number
 use Rattle.xt_trace.specs.declared.record.RegWrite.{RegWrite}
 use Rattle.xt_trace.specs.declared.record.StepKind.{StepKind}
-use Rattle.xt_trace.specs.declared.record.StepKind.TheVariants as kind
 use Rattle.xt_trace.specs.declared.record.StepRecord.{StepRecord}
 use Rattle.xt_map.specs.Code.{AreBytes}
 use Rattle.xt_map.specs.Fetching.{Fetched, Fetches, Fails, SpellsNothing, fetch_at}

@@ -1,5 +1,5 @@
 -- A step of the machine with unbounded frames from states that are equal but for time.
-use Rattle.std.proofs.Common.{◌≡◌, ℕ, ◌*◌, ◌⊎◌, Bool, true, false, cond, nat_lt, Option, Some, None, List, [], ◌∷◌, bit_and, slice_set, take, refl, sym, ap, subst, ⊎_elim}
+use Rattle.std.proofs.Common.{◌≡◌, ℕ, ◌*◌, Bool, true, false, cond, nat_lt, Option, Some, None, List, [], ◌∷◌, bit_and, slice_set, take, refl, sym, ap, subst, ⊎_elim}
 use Rattle.xt_isa.specs.declared.Insn.{Insn}
 use Rattle.xt_isa.specs.Ranges.{in_range}
 use Rattle.xt_special.specs.Control.{Control, special_of}
@@ -9,7 +9,6 @@ use Rattle.xt_special.specs.Interrupts.{after_interrupt, pending_of}
 use Rattle.xt_special.specs.Exceptions.{after_exception}
 use Rattle.xt_trace.specs.declared.record.RegWrite.{RegWrite}
 use Rattle.xt_trace.specs.declared.record.StepKind.{StepKind}
-use Rattle.xt_trace.specs.declared.record.StepKind.TheVariants as kind
 use Rattle.xt_map.specs.Code.{AreBytes}
 use Rattle.xt_map.specs.Fetching.{Fetched, Fetches, Fails, SpellsNothing, fetch_at}
 use Rattle.xt_map.proofs.Fetches.{fetched_range}

@@ -1,5 +1,5 @@
 -- A turn of a core with its judge, from its parts.
-use Rattle.std.proofs.Common.{◌≡◌, ℕ, zero, suc, Bool, true, false, cond, not, ◌&&◌, ◌||◌, List, refl, sym, ap, ◌∙◌, arith}
+use Rattle.std.proofs.Common.{◌≡◌, ℕ, zero, suc, Bool, true, false, not, ◌&&◌, ◌||◌, List, refl, sym, ap, ◌∙◌, arith}
 use Rattle.std.specs.Prelude.{◌==◌, ◌<◌}
 use Rattle.std.proofs.lemmas.Bool.{or_parts, true≢false}
 use Rattle.xt_map.specs.declared.contents.MemoryContents.{MemoryContents}
@@ -8,16 +8,13 @@ use Rattle.xt_trace.specs.Worlds.{answer}
 use Rattle.xt_exec.specs.Chips.{processor}
 use Rattle.xt_exec.specs.State.{State}
 use Rattle.xt_exec.specs.Turn.{demand, turn}
-use Rattle.xt_frames.specs.SaveAreas.{Range}
-use Rattle.xt_outcomes.specs.KeptWorlds.{spot_of}
 use Rattle.xt_outcomes.specs.Places.{is_own_access}
 use Rattle.xt_outcomes.specs.SpotRaces.{next_of}
-use Rattle.xt_outcomes.specs.Spots.{Side, Spot, side_bars, side_of, spot_past}
+use Rattle.xt_outcomes.specs.Spots.{Side, Spot, side_bars, side_of}
 use Rattle.xt_outcomes.specs.declared.places.Place.{Place}
-use Rattle.xt_judged.specs.OwnJudges.{Judge, Own, Watched, goes, is_alone, is_over, judge_past, other_range, own_in, record_in, turned, watched_bars, watched_past, with_judge}
+use Rattle.xt_judged.specs.OwnJudges.{Judge, Own, Watched, goes, is_alone, is_over, record_in, watched_bars, with_judge}
 use Rattle.xt_judged.specs.Timeless.{frame_uses_time}
-use Rattle.xt_judged.specs.WatchedKept.{judge_in, judge_of, watched_of}
-use Rattle.xt_judged.specs.declared.watched.OwnJudge.{OwnJudge}
+use Rattle.xt_judged.specs.WatchedKept.{judge_of, watched_of}
 use Rattle.xt_judged.specs.declared.watched.Watched as kept
 
 -- the record of the turn, from the core and memory before it
@@ -25,52 +22,9 @@ pub record_made : (code : ℕ → ℕ) (c : ℕ) (p : Spot State) (x : Side Stat
     → rec ≡ (turn code x.state (answer (demand code x.state) n)).0 → rec ≡ record_in (processor code) c p
 record_made code c p x n rec e f g = g ∙ (λ i. (turn code (e i).state (answer (demand code (e i).state) (f i))).0)
 
-pub side_same : (m : MemoryContents) (v : kept.Watched) (c : ℕ) → (own_in c (watched_of m v)).side ≡ side_of c (spot_of m v.world)
-side_same m v zero = refl
-side_same m v (suc c) = refl
-
--- the frame state of the core's judge
-pub frame_same : (code : ℕ → ℕ) (m : MemoryContents) (v : kept.Watched) (c : ℕ) (j : OwnJudge) (b : Bool) → j ≡ judge_in c v → b ≡ frame_uses_time code j.standing.frames.state
-    → (timed : Bool) → timed ≡ false → b ≡ (not timed && frame_uses_time code (own_in c (watched_of m v)).judge.standing.frame)
-frame_same code m v c j b e f timed g =
-    f ∙ ap (λ (k : OwnJudge). frame_uses_time code k.standing.frames.state) e ∙ by_core c ∙ sym (ap (λ (t : Bool). not t && frame_uses_time code (own_in c (watched_of m v)).judge.standing.frame) g)
-  where
-    by_core : (d : ℕ) → frame_uses_time code (judge_in d v).standing.frames.state ≡ frame_uses_time code (own_in d (watched_of m v)).judge.standing.frame
-    by_core zero = refl
-    by_core (suc d) = refl
-
-module _ (code : ℕ → ℕ) (r0 r1 : Range) (timed : Bool) (m : MemoryContents) (v : kept.Watched) where
-  abbrev here : Watched
-  here = watched_of m v
-
-  abbrev past : ℕ → Watched
-  past c = watched_past (processor code) code r0 r1 timed c here
-
-  pub judge_same : (c : ℕ) → judge_of (judge_in c v) ≡ (own_in c here).judge
-  judge_same zero = refl
-  judge_same (suc c) = refl
-
-  pub past_over : (c : ℕ) → is_over (own_in c here) ≡ true → here ≡ past c
-  past_over c e = sym (ap (λ (b : Bool). let w : Watched = cond b here (turned (processor code) code r0 r1 timed c here) in w) e)
-
-  pub past_made : (c : ℕ) (j : Judge) (spot : Spot State) (rec : StepRecord) (other : Range) → is_over (own_in c here) ≡ false → spot ≡ spot_past (processor code) timed c here.spot
-      → j ≡ judge_past code other c (judge_of (judge_in c v)) rec → other ≡ other_range c r0 r1 → rec ≡ record_in (processor code) c here.spot → with_judge c j spot here ≡ past c
-  past_made c j spot rec other e s h o r =
-      let judge : j ≡ judge_past code (other_range c r0 r1) c (own_in c here).judge (record_in (processor code) c here.spot) = h ∙ (λ i. judge_past code (o i) c (judge_same c i) (r i)) in
-      (λ i. with_judge c (judge i) (s i) here)
-      ∙ sym (ap (λ (b : Bool). let w : Watched = cond b here (turned (processor code) code r0 r1 timed c here) in w) e)
-
-pub fate_same : (m : MemoryContents) (v : kept.Watched) (c : ℕ) → goes (judge_in c v).fate ≡ goes (own_in c (watched_of m v)).judge.fate
-fate_same m v zero = refl
-fate_same m v (suc c) = refl
-
-pub left_same : (m : MemoryContents) (v : kept.Watched) (c : ℕ) → ((side_of c (spot_of m v.world)).left == 0) ≡ ((own_in c (watched_of m v)).side.left == 0)
-left_same m v zero = refl
-left_same m v (suc c) = refl
-
 -- a core that is not over has a turn left
-pub some_left : (m : MemoryContents) (v : kept.Watched) (c : ℕ) → is_over (own_in c (watched_of m v)) ≡ false → 0 < (side_of c (spot_of m v.world)).left
-some_left m v c e = by_left (side_of c (spot_of m v.world)).left (left_same m v c ∙ (or_parts (not (goes (own_in c (watched_of m v)).judge.fate)) ((own_in c (watched_of m v)).side.left == 0) e).1)
+pub some_left : (o : Own) → is_over o ≡ false → 0 < o.side.left
+some_left o e = by_left o.side.left (or_parts (not (goes o.judge.fate)) (o.side.left == 0) e).1
   where
     by_left : (n : ℕ) → (n == 0) ≡ false → 0 < n
     by_left zero h = absurd (true≢false h)

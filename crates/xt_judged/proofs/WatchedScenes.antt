@@ -1,29 +1,27 @@
 -- Where the judges of both cores go on in every order, the judge of both sees no breach.
-use Rattle.std.proofs.Common.{◌≡◌, ℕ, zero, suc, ◌<◌, Bool, true, false, cond, not, ◌&&◌, ◌||◌, Option, Some, None, List, [], ◌∷◌, ◌++◌, ne_eqb, refl, sym, ap, ◌∙◌, subst, arith}
-use Rattle.std.specs.Prelude.{◌==◌, is_some}
+use Rattle.std.proofs.Common.{◌≡◌, ℕ, zero, suc, ◌<◌, Bool, true, false, cond, not, ◌&&◌, ◌||◌, None, List, [], ◌∷◌, ◌++◌, ne_eqb, refl, sym, ap, ◌∙◌, subst, arith}
+use Rattle.std.specs.Prelude.{◌==◌}
 use Rattle.std.proofs.lemmas.Bool.{true≢false}
 use Rattle.xt_trace.specs.declared.record.StepRecord.{StepRecord}
 use Rattle.xt_trace.specs.Chip.{Chip}
-use Rattle.xt_trace.specs.Worlds.{answer}
 use Rattle.xt_exec.specs.Chips.{processor}
 use Rattle.xt_exec.specs.State.{State}
-use Rattle.xt_frames.specs.SaveAreas.{Range, is_live}
+use Rattle.xt_frames.specs.SaveAreas.{is_live}
 use Rattle.xt_frames.specs.Breaches.{Bounds}
 use Rattle.xt_frames.specs.Judging.{Standing, Seen, Handled, Judges, Breaks, seen_record}
-use Rattle.xt_outcomes.specs.Places.{is_told}
-use Rattle.xt_outcomes.specs.Spots.{Side, Spot, side_bars, side_of, spot_past}
+use Rattle.xt_outcomes.specs.Spots.{Spot, side_bars, side_of, spot_past}
 use Rattle.xt_outcomes.specs.declared.places.Place.{Place}
 use Rattle.xt_search.specs.Meetings.{after}
 use Rattle.xt_search.specs.Worlds.{IsOrder}
 use Rattle.xt_search.proofs.Meeting.{after_append}
-use Rattle.xt_judged.specs.Alone.{is_other, only_after}
-use Rattle.xt_judged.specs.OwnJudges.{Judge, Watched, goes, is_over, is_within, judge_past, own_in, record_in, turned, watched_bars, watched_past}
-use Rattle.xt_judged.specs.Scenes.{Scene, Told, is_idle, passed, record_of, scene_bars, scene_past, scenes_after, seen_at, standing_of, with_standing}
+use Rattle.xt_judged.specs.Alone.{only_after}
+use Rattle.xt_judged.specs.OwnJudges.{Watched, goes, is_over, is_within, judge_past, own_in, record_in, turned, watched_bars, watched_past}
+use Rattle.xt_judged.specs.Scenes.{Scene, is_idle, passed, record_of, scene_bars, scene_past, scenes_after, seen_at, standing_of, with_standing}
 use Rattle.xt_judged.specs.Timeless.{frame_uses_time}
 use Rattle.xt_judged.proofs.Every.{orders_more, scenes_are}
-use Rattle.xt_judged.proofs.OneJudge.{IsNext, IsSound, is_calm, next_is, stale_past, standing_past}
-use Rattle.xt_judged.proofs.Turned.{has_left, no_breach}
-use Rattle.xt_judged.proofs.WatchedTurns.{AllGo, over_parts, step_made, step_over}
+use Rattle.xt_judged.proofs.OneJudge.{IsSound, is_calm, next_is, stale_past, standing_past}
+use Rattle.xt_judged.proofs.Turned.{has_left}
+use Rattle.xt_judged.proofs.WatchedTurns.{AllGo, step_made}
 use Rattle.xt_judged.proofs.Within.{In, live_in}
 
 -- what is known past a record that shows no breach

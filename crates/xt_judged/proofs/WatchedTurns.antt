@@ -1,7 +1,7 @@
 -- Turns that meet nothing come in either order, where each core has a judge of its own.
 use Rattle.std.proofs.Common.{◌≡◌, ◌≢◌, ℕ, zero, suc, ◌<◌, Bool, true, false, cond, not, ◌&&◌, ◌||◌, Option, Some, None, List, [], ◌∷◌, refl, sym, ap, ◌∙◌, subst, arith, ne_eqb}
 use Rattle.std.specs.Prelude.{◌==◌}
-use Rattle.std.proofs.lemmas.Bool.{and_from, and_parts, not-false, not-true, or_parts, true≢false}
+use Rattle.std.proofs.lemmas.Bool.{and_from, and_parts, not-false, not-true, or_parts}
 use Rattle.xt_map.specs.declared.access.Access.{Access}
 use Rattle.xt_map.specs.declared.contents.MemoryContents.{MemoryContents}
 use Rattle.xt_map.specs.Memory.{HasSizes}
@@ -20,7 +20,7 @@ use Rattle.xt_outcomes.specs.Spots.{Side, Spot, memory_given, side_bars, side_of
 use Rattle.xt_outcomes.specs.declared.places.Place.{Place}
 use Rattle.xt_outcomes.proofs.Commuted.{TurnsApart, allowed_is_told, local_is_allowed, next_served, other_side, own_and_other, past_sizes, spots_commute, turned_apart}
 use Rattle.xt_outcomes.proofs.NoneDead.{bars_are_same, next_is_past}
-use Rattle.xt_judged.specs.OwnJudges.{Judge, Own, Watched, goes, is_alone, is_over, judge_past, other_range, own_in, record_in, turned, watched_bars, watched_past, with_judge}
+use Rattle.xt_judged.specs.OwnJudges.{Own, Watched, goes, is_alone, is_over, judge_past, own_in, record_in, turned, watched_bars, watched_past}
 use Rattle.xt_judged.specs.Timeless.{frame_uses_time}
 
 -- ---- accesses that meet nothing

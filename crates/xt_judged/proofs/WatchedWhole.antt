@@ -1,34 +1,29 @@
 -- Where each core has a judge of its own and all that is kept is settled, the verdict of every run is whole.
-use Rattle.std.proofs.Common.{◌≡◌, ℕ, ◌+◌, ◌<◌, ◌≤◌, ◌⊎◌, ⊎_elim, Bool, true, false, None, List, [], refl, sym, ap, ◌∙◌, subst, arith}
+use Rattle.std.proofs.Common.{◌≡◌, ℕ, ◌≤◌, ⊎_elim, Bool, true, List, refl, sym, arith}
 use Rattle.std.proofs.lemmas.Bool.{true≢false}
-use Rattle.xt_map.specs.Memory.{HasSizes, constant_byte}
+use Rattle.xt_map.specs.Memory.{HasSizes}
 use Rattle.xt_image.specs.declared.image.Image.{Image}
 use Rattle.xt_trace.specs.declared.options.Options.{Options}
 use Rattle.xt_trace.specs.Validity.{IsValid}
 use Rattle.xt_map.specs.Code.{AreBytes}
-use Rattle.xt_exec.specs.Chips.{processor}
 use Rattle.xt_core.specs.Runs.{code_of, memory_of}
-use Rattle.xt_frames.specs.Breaches.{Bounds}
-use Rattle.xt_frames.specs.SaveAreas.{Range}
 use Rattle.xt_frames.specs.Stacks.{IsRange}
-use Rattle.xt_frames.specs.Walked.{Walked, opening_walked, stack_of}
+use Rattle.xt_frames.specs.Walked.{opening_walked, stack_of}
 use Rattle.xt_frames.proofs.Stacked.{opening_stack}
 use Rattle.xt_discipline.specs.Verdicts.{are_checked, opened0, opened1}
 use Rattle.xt_discipline.proofs.Opens.{range_of_core}
 use Rattle.xt_search.specs.declared.graph.Graph.{Graph}
-use Rattle.xt_search.specs.Graphs.{HasAll, IsAt, OpensWith}
-use Rattle.xt_search.specs.Meetings.{after}
-use Rattle.xt_search.specs.Worlds.{IsOrder}
+use Rattle.xt_search.specs.Graphs.{IsAt, IsGraph, IsWhole, OpensWith}
 use Rattle.xt_outcomes.specs.declared.places.Place.{Place}
 use Rattle.xt_judged.specs.Laws.{AllAreWholeWhereNoSceneBreaks}
 use Rattle.xt_judged.specs.Orders.{first_scene}
-use Rattle.xt_judged.specs.OwnJudges.{Watched, is_within, opening_judge, own_in, range_of, watched_bars, watched_past}
+use Rattle.xt_judged.specs.Forgotten.{Leads, Stands}
+use Rattle.xt_judged.specs.OwnJudges.{is_within, range_of}
 use Rattle.xt_judged.specs.Runs.{AllAreWhole}
-use Rattle.xt_judged.specs.WatchedKept.{AreSettled, Leads, watched_of}
+use Rattle.xt_judged.specs.WatchedKept.{AreSettled, watched_of}
 use Rattle.xt_judged.specs.WatchedSearch.{AreStacksApart, first_watched}
 use Rattle.xt_judged.specs.declared.watched.Watched as kept
-use Rattle.xt_judged.proofs.OneJudge.{IsSound}
-use Rattle.xt_judged.proofs.WatchedEvery.{all_free, all_go}
+use Rattle.xt_judged.proofs.FewerOrders.{all_free, all_go}
 use Rattle.xt_judged.proofs.WatchedScenes.{IsOf, none_bars, none_breaks}
 use Rattle.xt_judged.proofs.Within.{In, stack_within}
 
@@ -67,23 +62,15 @@ module _ (image : Image) (o : Options) (timed : Bool) (valid : IsValid o) (apart
     };
   }
 
-  module _ (n : ℕ) (g : Graph kept.Watched) (first : kept.Watched) (opens : OpensWith g first)
-      (all : HasAll (λ c v w. Leads (code_of image) (range_of o.stack0) (range_of o.stack1) timed ps n (memory_of image o) c v w) g)
+  module _ (ms : List ℕ) (g : Graph kept.Watched) (first : kept.Watched) (opens : OpensWith g first)
+      (is : IsGraph (λ c v w. Leads (code_of image) ms (range_of o.stack0) (range_of o.stack1) timed ps (memory_of image o) c v w) g) (whole : IsWhole g)
       (settled : (k : ℕ) (w : kept.Watched) → IsAt g.kept.items k w → AreSettled (code_of image) ps w) (sizes : HasSizes (first_watched image o timed).spot.memory)
-      (is : watched_of (memory_of image o) first ≡ first_watched image o timed) where
-    abbrev step : ℕ → Watched → Watched
-    step c v = watched_past (processor (code_of image)) (code_of image) (range_of o.stack0) (range_of o.stack1) timed c v
-
-    begins_here : IsOf (code_of image) timed ps (opened0 image o).bounds (opened1 o).bounds (apart_ranges o apart) (first_scene image o timed) (watched_of (memory_of image o) first)
-    begins_here = subst (IsOf (code_of image) timed ps (opened0 image o).bounds (opened1 o).bounds (apart_ranges o apart) (first_scene image o timed)) (sym is) begins
-
-    here_sizes : HasSizes (watched_of (memory_of image o) first).spot.memory
-    here_sizes = subst (λ (v : Watched). HasSizes v.spot.memory) (sym is) sizes
-
+      (stands : Stands ms (watched_of (memory_of image o) first) (first_watched image o timed)) where
     pub all_whole_apart : AllAreWholeWhereNoSceneBreaks → AreBytes (code_of image) → are_checked image o ≡ true → AllAreWhole image o timed
     all_whole_apart law bytes checked =
-        let go = all_go (code_of image) (range_of o.stack0) (range_of o.stack1) timed ps n (memory_of image o) g first opens all settled here_sizes in
-        let free = all_free (code_of image) (range_of o.stack0) (range_of o.stack1) timed ps n (memory_of image o) g first opens all settled here_sizes in
+        let opening = first_watched image o timed in
+        let go = all_go (code_of image) ms (range_of o.stack0) (range_of o.stack1) timed ps (memory_of image o) g is whole settled opening (0, first, opens, stands) sizes in
+        let free = all_free (code_of image) ms (range_of o.stack0) (range_of o.stack1) timed ps (memory_of image o) g is whole settled opening (0, first, opens, stands) sizes in
         law image o timed bytes checked
-        (λ order order_is. none_breaks (code_of image) timed ps (opened0 image o).bounds (opened1 o).bounds (apart_ranges o apart) (first_scene image o timed) (watched_of (memory_of image o) first) begins_here go free order order_is)
-        (λ order c order_is small. none_bars (code_of image) timed ps (opened0 image o).bounds (opened1 o).bounds (apart_ranges o apart) (first_scene image o timed) (watched_of (memory_of image o) first) begins_here go free order c order_is small)
+        (λ order order_is. none_breaks (code_of image) timed ps (opened0 image o).bounds (opened1 o).bounds (apart_ranges o apart) (first_scene image o timed) opening begins go free order order_is)
+        (λ order c order_is small. none_bars (code_of image) timed ps (opened0 image o).bounds (opened1 o).bounds (apart_ranges o apart) (first_scene image o timed) opening begins go free order c order_is small)

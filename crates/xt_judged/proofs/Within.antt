@@ -1,5 +1,5 @@
 -- The live save areas of a core lie in its stack.
-use Rattle.std.proofs.Common.{◌≡◌, ℕ, ◌+◌, ◌-◌, ◌*◌, ◌<◌, ◌≤◌, Bool, true, false, ◌&&◌, nat_le, nat_lt, List, [], ◌∷◌, refl, sym, ⊎_elim, arith}
+use Rattle.std.proofs.Common.{◌≡◌, ℕ, ◌+◌, ◌-◌, ◌*◌, ◌<◌, ◌≤◌, true, ◌&&◌, nat_le, nat_lt, List, [], ◌∷◌, refl, sym, ⊎_elim, arith}
 use Rattle.std.proofs.lemmas.Bool.{and_from, and_parts, le-leb, leb-true, ltb-true, or_cases, true≢false}
 use Rattle.xt_frames.specs.Frames.{Frame, FrameState, value_or_zero}
 use Rattle.xt_frames.specs.SaveAreas.{Area, Range, areas, before, covers_byte, is_live, live_areas, sp_of, touches}

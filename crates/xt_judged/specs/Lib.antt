@@ -13,6 +13,7 @@ pub mod Scenes
 pub mod Orders
 pub mod OwnJudges
 pub mod WatchedKept
+pub mod Forgotten
 pub mod WatchedSearch
 pub mod Laws
 pub mod OrderText

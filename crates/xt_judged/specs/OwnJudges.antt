@@ -17,7 +17,7 @@ use Rattle.xt_frames.specs.Judging.{Standing, Seen, Handled, Judges, Breaks, ope
 use Rattle.xt_frames.specs.Judging.{seen_record}
 use Rattle.xt_frames.specs.Walked.{Walked}
 use Rattle.xt_search.specs.Meetings.{run}
-use Rattle.xt_outcomes.specs.Places.{is_own_access, is_told}
+use Rattle.xt_outcomes.specs.Places.{is_own_access}
 use Rattle.xt_outcomes.specs.SpotRaces.{next_of}
 use Rattle.xt_outcomes.specs.Spots.{Side, Spot, side_bars, side_of, spot_past}
 use Rattle.xt_outcomes.specs.declared.places.Place.{Place}

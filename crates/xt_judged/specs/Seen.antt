@@ -8,7 +8,8 @@ use Rattle.xt_frames.specs.Breaches.{stale_after}
 use Rattle.xt_frames.specs.declared.kinds.HandlerPhase.{HandlerPhase}
 use Rattle.xt_frames.specs.Judging.{Standing, Seen, Handled, Judges, Breaks, seen_record}
 use Rattle.xt_frames.specs.Stacks.{Moves}
-use Rattle.xt_frames.specs.Walked.{Walked}
+use Rattle.xt_frames.specs.Walked.{Walked, fresh_before}
+use Rattle.xt_judged.specs.declared.record.Beside.{Beside}
 use Rattle.xt_judged.specs.declared.record.Known.{Known}
 use Rattle.xt_judged.specs.declared.scene.Standing as kept
 use Rattle.xt_judged.specs.declared.seeing.Passed.{Passed}
@@ -57,3 +58,21 @@ abbrev pub IsApartPast : Option Walked → List ℕ → Result Known BreachKind 
 IsApartPast other stale (Ok k) =
     AreApart k.standing.frames other (renewed stale k.stale)
 IsApartPast other stale (Err kind) = Unit {0}
+
+-- what is known of the core is a copy of these frames, and this beside them
+pub record IsCopied (new : Walked) (b : Beside) (k : Known) : Type 0 where
+  pub frames : k.standing.frames ≡ record new { fresh = fresh_before new 1; next = 0 }
+  pub phase : k.standing.phase ≡ b.phase
+  pub stale : k.stale ≡ b.stale
+
+-- the same, where the core has the frames `new` past the record, of which a copy is known then
+abbrev pub IsKnownAfter :
+    kept.Standing → List ℕ → Walked → Seen → Result Beside BreachKind → Type 0
+IsKnownAfter own stale new seen (Ok b) =
+    (k : Known) → IsCopied new b k → IsKnownPast own stale seen (Ok k)
+IsKnownAfter own stale new seen (Err kind) = IsKnownPast own stale seen (Err kind)
+
+abbrev pub IsApartAfter : Option Walked → List ℕ → Walked → Result Beside BreachKind → Type 0
+IsApartAfter other stale new (Ok b) =
+    (k : Known) → IsCopied new b k → IsApartPast other stale (Ok k)
+IsApartAfter other stale new (Err kind) = Unit {0}

@@ -11,7 +11,8 @@ use Rattle.xt_discipline.specs.Verdicts.{opened0, opened1}
 use Rattle.xt_search.specs.Graphs.{IsAt, IsGraph, OpensWith}
 use Rattle.xt_outcomes.specs.Spots.{spot_in}
 use Rattle.xt_judged.specs.OwnJudges.{Watched, opening_judge, range_of}
-use Rattle.xt_judged.specs.WatchedKept.{AreSettled, Leads, watched_of}
+use Rattle.xt_judged.specs.Forgotten.{Leads, Stands}
+use Rattle.xt_judged.specs.WatchedKept.{AreSettled, watched_of}
 use Rattle.xt_judged.specs.declared.apart.OwnSearch.{OwnSearch}
 use Rattle.xt_judged.specs.declared.watched.Watched as kept
 
@@ -31,10 +32,11 @@ pub record IsSearch (image : Image) (o : Options) (timed : Bool) (s : OwnSearch)
   pub is_timed : s.machine.timed.timed ≡ timed
   pub stack0 : s.machine.stack0 ≡ o.stack0
   pub stack1 : s.machine.stack1 ≡ o.stack1
-  pub graph : IsGraph (Leads (code_of image) (range_of o.stack0) (range_of o.stack1) timed
-      s.machine.places.list.items s.machine.most_local (memory_of image o)) s.graph
+  pub graph : IsGraph (Leads (code_of image) s.machine.timed.dead.masks.items (range_of o.stack0)
+      (range_of o.stack1) timed s.machine.places.list.items (memory_of image o)) s.graph
   pub first : (w : kept.Watched) × OpensWith s.graph w
-      × (watched_of (memory_of image o) w ≡ first_watched image o timed)
+      × Stands s.machine.timed.dead.masks.items (watched_of (memory_of image o) w)
+      (first_watched image o timed)
 
 -- of all that is kept both judges go on, and the places tell of both next turns
 abbrev pub AreAllSettled : OwnSearch → Type 0

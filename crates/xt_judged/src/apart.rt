@@ -16,7 +16,7 @@ use crate::watched::Watched;
 use crate::watching::Watching;
 use std::alloc::{AllocError, Global};
 use xt_image::Image;
-use xt_outcomes::{Places, Seen, Timed, World};
+use xt_outcomes::{Dead, Places, Seen, Timed, World};
 use xt_search::{Changes, Graph, has_all, search};
 use xt_trace::Options;
 
@@ -65,17 +65,18 @@ fn searched(
     ensures search { IfOk result (λ g. IsSearch image.now options.now timed (record { machine = machine.now; graph = g })) }
     ensures tree { IfOk result (λ g. IsTree g) }
 {
-    let opening = open_watched(alloc, image, options, timed)?;
+    let opening = open_watched(alloc, image, options, timed, &machine.timed.dead)?;
     let graph = search(alloc, machine, desk, opening, most)?;
     Ok(graph)
 }
 
-// A search by these places. The only error is running out of memory.
+// A search by these places and dead registers. The only error is running out of memory.
 fn search_by<'a>(
     alloc: Global,
     image: &'a Image,
     options: &Options,
     timed: bool,
+    dead: &Dead,
     desk: &mut SceneDesk,
     places: Places,
     most: u32,
@@ -86,8 +87,10 @@ fn search_by<'a>(
     ensures search { IfOk result (IsSearch image.now options.now timed) }
     ensures tree { IfOk result (λ s. IsTree s.graph) }
 {
+    let dead = dead.copy(alloc)?;
+    let all = Places::met(alloc);
     let machine = Watching {
-        timed: Timed::plain(alloc, image, options, timed)?,
+        timed: Timed::make(alloc, image, options, timed, all, dead, 0)?,
         places,
         stack0: options.stack0,
         stack1: options.stack1,
@@ -162,6 +165,11 @@ fn note_all(search: &OwnSearch, seen: &mut Seen) -> bool {
     new
 }
 
+// Whether a search would not go on if it could keep more states.
+fn has_ended(search: &OwnSearch) -> bool {
+    search.graph.barred.is_some() || search.graph.nexts.len() == search.graph.kept.len()
+}
+
 // Whether both judges of all that is kept go on, and the places tell of the next turns.
 fn are_settled(search: &OwnSearch) -> bool
     ensures { result ≡ true → AreAllSettled search.now }
@@ -197,14 +205,16 @@ pub fn is_whole(image: &Image, options: &Options, timed: bool, search: &OwnSearc
     has_all(&search.machine, &search.graph)
 }
 
-/// Searches what all orders lead to, and keeps at most so many states. It begins with the places that two
-/// orders show, and searches again as long as an access shows that they were not right. The only error is
-/// running out of memory.
+/// Searches what all orders lead to, without these dead registers, and keeps at most so many states. It begins
+/// with the places that two orders show, and searches again as long as an access shows that they were not
+/// right. It ends early before a turn that does not fit the dead registers. The only error is running out of
+/// memory.
 pub fn search_watched<'a>(
     alloc: Global,
     image: &'a Image,
     options: &Options,
     timed: bool,
+    dead: &Dead,
     desk: &mut SceneDesk,
     most: u32,
 ) -> Result<OwnSearch<'a>, AllocError>
@@ -219,9 +229,9 @@ pub fn search_watched<'a>(
     let mut limit = most.min(FIRST);
     for _ in 0..64u32 {
         let places = seen.places(alloc)?;
-        let search = search_by(alloc, image, options, timed, desk, places, limit)?;
+        let search = search_by(alloc, image, options, timed, dead, desk, places, limit)?;
         let is_new = note_all(&search, &mut seen);
-        if !is_new && (limit >= most || search.graph.nexts.len() == search.graph.kept.len()) {
+        if !is_new && (limit >= most || has_ended(&search)) {
             return Ok(search);
         }
         limit = if is_new {
@@ -230,5 +240,6 @@ pub fn search_watched<'a>(
             most
         };
     }
-    search_by(alloc, image, options, timed, desk, Places::met(alloc), most)
+    let all = Places::met(alloc);
+    search_by(alloc, image, options, timed, dead, desk, all, most)
 }

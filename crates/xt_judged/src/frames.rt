@@ -15,6 +15,7 @@ use std::alloc::{AllocError, Global};
 use xt_discipline::{are_yes, handlers_of};
 use xt_frames::BreachKind;
 use xt_image::{Image, well_formed_is_placed};
+use xt_outcomes::Dead;
 use xt_search::Graph;
 use xt_trace::Options;
 
@@ -87,13 +88,45 @@ fn found_in<W: Met + Drop>(
     Ok(JudgedOrders::Broken(list))
 }
 
-// What is judged by a search in which each core has a judge of its own. The only error is running out of
-// memory.
+// Whether nothing is known.
+fn is_unknown(frames: &JudgedOrders) -> bool {
+    matches!(frames, JudgedOrders::Unknown)
+}
+
+// What is judged by a search in which each core has a judge of its own, without these dead registers, and
+// whether a search with all registers may tell more. The only error is running out of memory.
 fn judge_apart(
     alloc: Global,
     image: &Image,
     options: &Options,
     timed: bool,
+    dead: &Dead,
+    desk: &mut SceneDesk,
+    most: u32,
+) -> Result<(JudgedOrders, bool), AllocError>
+    requires image { IsWellFormed image.now }
+    requires valid { IsValid options.now }
+    requires checked { are_checked image.now options.now ≡ true }
+    ensures { IfOk result (λ r. AreFrames image.now options.now timed r.0) }
+{
+    well_formed_is_placed();
+    let search = search_watched(alloc, image, options, timed, dead, desk, most)?;
+    if apart::is_whole(image, options, timed, &search) {
+        return Ok((JudgedOrders::Whole, false));
+    }
+    let frames = found_in(alloc, image, options, timed, &search.graph)?;
+    let again = is_unknown(&frames) && search.graph.kept.len() < most as usize;
+    Ok((frames, again))
+}
+
+// What is judged by such a search, or by one with all registers, if it tells more. The only error is running
+// out of memory.
+fn judge_own(
+    alloc: Global,
+    image: &Image,
+    options: &Options,
+    timed: bool,
+    dead: &Dead,
     desk: &mut SceneDesk,
     most: u32,
 ) -> Result<JudgedOrders, AllocError>
@@ -102,12 +135,13 @@ fn judge_apart(
     requires checked { are_checked image.now options.now ≡ true }
     ensures { IfOk result (AreFrames image.now options.now timed) }
 {
-    well_formed_is_placed();
-    let search = search_watched(alloc, image, options, timed, desk, most)?;
-    if apart::is_whole(image, options, timed, &search) {
-        return Ok(JudgedOrders::Whole);
+    let (frames, again) = judge_apart(alloc, image, options, timed, dead, desk, most)?;
+    if !again || dead.masks.is_empty() {
+        return Ok(frames);
     }
-    found_in(alloc, image, options, timed, &search.graph)
+    let none = Dead::none(alloc);
+    let (frames, _) = judge_apart(alloc, image, options, timed, &none, desk, most)?;
+    Ok(frames)
 }
 
 // What is judged by a search in which the judge looks at both cores. The only error is running out of
@@ -134,8 +168,8 @@ fn judge_both(
 }
 
 /// What is judged of the runs of an image in all orders, where each search keeps at most so many states:
-/// timed, with the turns that the options give, or with any number of turns. The only error is running out
-/// of memory.
+/// timed, with the turns that the options give, or with any number of turns. These registers may be dead,
+/// which each turn of the search checks. The only error is running out of memory.
 ///
 /// Conditions: the image is well formed, and the options are valid.
 pub fn judge_orders(
@@ -143,6 +177,7 @@ pub fn judge_orders(
     image: &Image,
     options: &Options,
     timed: bool,
+    dead: &Dead,
     most: u32,
 ) -> Result<JudgedOrders, AllocError>
     requires image { IsWellFormed image.now }
@@ -154,9 +189,9 @@ pub fn judge_orders(
     if !are_yes(&handlers) {
         return Ok(JudgedOrders::Unchecked);
     }
-    let mut desk = SceneDesk::make(alloc)?;
-    let frames = judge_apart(alloc, image, options, timed, &mut desk, most)?;
-    if let JudgedOrders::Unknown = &frames {
+    let mut desk = SceneDesk::make(alloc, options)?;
+    let frames = judge_own(alloc, image, options, timed, dead, &mut desk, most)?;
+    if is_unknown(&frames) {
         return judge_both(alloc, image, options, timed, &mut desk, most);
     }
     Ok(frames)

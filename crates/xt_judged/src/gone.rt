@@ -6,7 +6,7 @@ ghost use Rattle.xt_frames.specs.Stacks.{Moves};
 ghost use Rattle.xt_frames.specs.Walked.{Walked};
 ghost use Rattle.xt_discipline.specs.Sides.{in_areas};
 ghost use Rattle.xt_judged.specs.Lives.{AreApart, is_live_in};
-ghost use Rattle.xt_judged.specs.Past.{HasRoom, IsBefore};
+ghost use Rattle.xt_judged.specs.Past.{HasRoom, IsBefore, IsOnStack};
 ghost use Rattle.xt_judged.specs.Stales.{among, renewed};
 
 use crate::bytes::is_live_in;
@@ -29,6 +29,7 @@ pub struct Before {
 pub fn kept_before(frames: &Frames) -> Before
     ensures kept { IsBefore result frames.now }
     ensures room { HasRoom result.call }
+    ensures stack { IsOnStack frames.now }
 {
     let depth = frames.depth();
     Before {

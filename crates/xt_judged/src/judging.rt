@@ -20,7 +20,7 @@ use crate::stale::Stale;
 use crate::watched::{OwnJudge, Watched};
 use std::alloc::{AllocError, Global};
 use std::rc::Rc;
-use xt_frames::BreachKind;
+use xt_frames::{BreachKind, Frames};
 use xt_outcomes::{Shared, Shelf, Side, Timed};
 use xt_search::{Changes, Machine};
 use xt_trace::{Options, StepRecord};
@@ -50,6 +50,9 @@ pub struct SceneDesk {
     standings: Shelf<Standing>,
     stales: Shelf<Stale>,
     judges: Shelf<OwnJudge>,
+    /// The frames of the core that makes a turn, and those of the other one, where the judge looks at it.
+    pub own: Frames,
+    pub other: Frames,
 }
 
 impl Drop for SceneDesk {
@@ -59,18 +62,27 @@ impl Drop for SceneDesk {
             standings: _,
             stales: _,
             judges: _,
+            own: _,
+            other: _,
         } = self;
     }
 }
 
 impl SceneDesk {
     /// Nothing is shared yet. The only error is running out of memory.
-    pub fn make(alloc: Global) -> Result<SceneDesk, AllocError> {
+    ///
+    /// Condition: the options are valid.
+    #[tactic(auto, using(xt_discipline::proofs::Opens::range_of_core))]
+    pub fn make(alloc: Global, options: &Options) -> Result<SceneDesk, AllocError>
+        requires { IsValid options.now }
+    {
         Ok(SceneDesk {
             shared: Shared::new(alloc)?,
             standings: Shelf::new(alloc)?,
             stales: Shelf::new(alloc)?,
             judges: Shelf::new(alloc)?,
+            own: Frames::make(alloc, 0, 0, options)?,
+            other: Frames::make(alloc, 1, 0, options)?,
         })
     }
 
@@ -90,9 +102,12 @@ impl SceneDesk {
     pub fn keep_watched(&mut self, watched: &mut Watched) -> Result<(), AllocError>
         ensures { (m : MemoryContents) → watched_of m watched.new ≡ watched_of m watched.old }
     {
+        // Judges of equal cores are mostly equal.
+        let mark0 = watched.world.side(0).digest();
+        let mark1 = watched.world.side(1).digest();
         self.shared.keep(&mut watched.world)?;
-        self.judges.keep(&mut watched.judge0)?;
-        self.judges.keep(&mut watched.judge1)
+        self.judges.keep_by(&mut watched.judge0, mark0)?;
+        self.judges.keep_by(&mut watched.judge1, mark1)
     }
 }
 
@@ -150,6 +165,7 @@ impl<'a> Judging<'a> {
     // What the judge sees in the record of a core's turn. The only error is running out of memory.
     fn seen(
         &self,
+        desk: &mut SceneDesk,
         scene: &Scene,
         core: u8,
         rec: &StepRecord,
@@ -158,12 +174,14 @@ impl<'a> Judging<'a> {
         ensures apart { IfOk result (IsApartPast (Some (other_of core scene.now).frames) scene.now.stale.value) }
     {
         let own = scene.own(core);
-        let other = scene.other(core).frames.frames(self.alloc)?;
+        desk.own.reload(self.alloc, &own.frames)?;
+        desk.other.reload(self.alloc, &scene.other(core).frames)?;
         see_record(
             self.alloc,
             &self.timed.code,
             own,
-            Some(&other),
+            &mut desk.own,
+            Some(&desk.other),
             scene.stale.as_ref(),
             rec,
         )
@@ -196,7 +214,7 @@ impl<'a> Judging<'a> {
     // The scene past a turn of a core. The only error is running out of memory.
     //
     // Condition: the core is 0 or 1.
-    fn turn(&self, scene: &Scene, core: u8) -> Result<Scene, AllocError>
+    fn turn(&self, desk: &mut SceneDesk, scene: &Scene, core: u8) -> Result<Scene, AllocError>
         requires { core < 2 }
         ensures { IfOk result (IsTurn (constant_byte self.now.timed.code) self.now.timed.timed self.now.timed.opening.contents core scene.now) }
     {
@@ -210,7 +228,7 @@ impl<'a> Judging<'a> {
             &mut changes,
             self.timed.timed,
         )?;
-        match self.seen(scene, core, &rec)? {
+        match self.seen(desk, scene, core, &rec)? {
             Ok(known) => self.past(scene, core, side, changes, known, &rec),
             Err(kind) => {
                 let pc = rec.pc;
@@ -251,20 +269,20 @@ impl<'a> Judging<'a> {
     // A turn of a core, and then those that it makes alone. The only error is running out of memory.
     //
     // Condition: the core is 0 or 1.
-    fn run(&self, scene: &Scene, core: u8) -> Result<Scene, AllocError>
+    fn run(&self, desk: &mut SceneDesk, scene: &Scene, core: u8) -> Result<Scene, AllocError>
         requires { core < 2 }
         ensures stretch { let t = self.now.timed in IfOk result (λ s. scene_of t.opening.contents s ≡ stretch (constant_byte t.code) (bounds0 scene.now) (bounds1 scene.now) t.timed self.now.most_alone core (scene_of t.opening.contents scene.now)) }
         ensures same0 { IfOk result (λ s. bounds0 s ≡ bounds0 scene.now) }
         ensures same1 { IfOk result (λ s. bounds1 s ≡ bounds1 scene.now) }
     {
-        let mut next = self.turn(scene, core)?;
+        let mut next = self.turn(desk, scene, core)?;
         let mut turns = 1;
         for made in 0..self.most_alone {
             if !self.goes_on(&next, core) {
                 next.turns = turns;
                 return Ok(next);
             }
-            next = self.turn(&next, core)?;
+            next = self.turn(desk, &next, core)?;
             turns += 1;
         }
         next.turns = turns;
@@ -301,7 +319,7 @@ impl<'a> Machine for Judging<'a> {
         if self.bars(scene, core) {
             return Ok(None);
         }
-        let mut next = self.run(scene, core)?;
+        let mut next = self.run(desk, scene, core)?;
         desk.keep_scene(&mut next)?;
         Ok(Some(next))
     }

@@ -5,8 +5,11 @@ ghost use Rattle.xt_trace.specs.Validity.{IsValid};
 ghost use Rattle.xt_frames.specs.Judging.{opening_standing};
 ghost use Rattle.xt_frames.specs.Walked.{opening_walked};
 ghost use Rattle.xt_core.specs.Runs.{memory_of, opening_of};
+ghost use Rattle.xt_map.specs.declared.contents.MemoryContents.{MemoryContents};
+ghost use Rattle.xt_outcomes.specs.Dead.{spot_forgotten};
 ghost use Rattle.xt_outcomes.specs.KeptWorlds.{spot_of};
 ghost use Rattle.xt_outcomes.specs.Spots.{spot_in};
+ghost use Rattle.xt_judged.specs.Forgotten.{Stands};
 ghost use Rattle.xt_judged.specs.Kept.{IsFirst, standing_of};
 ghost use Rattle.xt_judged.specs.Lives.{AreApart};
 ghost use Rattle.xt_judged.specs.OwnJudges.{opening_judge};
@@ -20,7 +23,7 @@ use std::alloc::{AllocError, Global};
 use std::rc::Rc;
 use xt_frames::{Frames, HandlerPhase};
 use xt_image::Image;
-use xt_outcomes::{Desk, World};
+use xt_outcomes::{Dead, Desk, World};
 use xt_trace::Options;
 
 // What the judge knows of a core that opens at `pc`. The only error is running out of memory.
@@ -127,7 +130,23 @@ fn shared_judge(
     Ok(Rc::new(alloc, judge)?)
 }
 
-/// Both cores as the runs of an image open, each with its judge. The only error is running out of memory.
+// The same world without the registers that are dead. The only error is running out of memory.
+fn without_dead(alloc: Global, world: &World, dead: &Dead) -> Result<World, AllocError>
+    ensures { IfOk result (λ w. (m : MemoryContents) → spot_of m w ≡ spot_forgotten dead.now.masks.items (spot_of m world.now)) }
+{
+    let mut side0 = world.side(0).copy();
+    side0.forget(dead);
+    let mut side1 = world.side(1).copy();
+    side1.forget(dead);
+    Ok(World {
+        side0: Rc::new(alloc, side0)?,
+        side1: Rc::new(alloc, side1)?,
+        changes: world.changes.clone()?,
+    })
+}
+
+/// Both cores as the runs of an image open, each with its judge, without the registers that are dead. The
+/// only error is running out of memory.
 ///
 /// Condition: the options are valid.
 pub fn open_watched(
@@ -135,11 +154,13 @@ pub fn open_watched(
     image: &Image,
     options: &Options,
     timed: bool,
+    dead: &Dead,
 ) -> Result<Watched, AllocError>
     requires { IsValid options.now }
-    ensures { IfOk result (λ w. watched_of (memory_of image.now options.now) w ≡ first_watched image.now options.now timed) }
+    ensures { IfOk result (λ w. Stands dead.now.masks.items (watched_of (memory_of image.now options.now) w) (first_watched image.now options.now timed)) }
 {
-    let world = open_world(alloc, image, options, timed)?;
+    let whole = open_world(alloc, image, options, timed)?;
+    let world = without_dead(alloc, &whole, dead)?;
     let judge0 = shared_judge(alloc, 0, image.entry, options)?;
     let judge1 = shared_judge(alloc, 1, options.entry1, options)?;
     Ok(Watched {

@@ -191,7 +191,7 @@ pub fn outcomes_text(
 {
     well_formed_is_placed();
     let answers = answers_of(alloc, image, options, timed, addresses, most)?;
-    let frames = judge_orders(alloc, image, options, timed, most)?;
+    let frames = judge_orders(alloc, image, options, timed, &answers.dead, most)?;
     let code = Constants::make(alloc, image.segments.as_slice())?;
     answers_text(alloc, &code, addresses, &answers, &frames)
 }

@@ -1,22 +1,25 @@
 //! The turns of two cores, each of which has a judge of its own.
-ghost use Rattle.std.specs.Prelude.{◌≡◌, ◌<◌, true, IfOk};
+ghost use Rattle.std.specs.Prelude.{◌≡◌, ◌<◌, true, false, None, IfNone, IfOk, IfSome, OnOk};
 ghost use Rattle.xt_map.specs.Memory.{constant_byte};
-ghost use Rattle.xt_map.specs.declared.contents.MemoryContents.{MemoryContents};
-ghost use Rattle.xt_exec.specs.Chips.{processor};
-ghost use Rattle.xt_judged.specs.OwnJudges.{goes, is_alone, other_range, own_in, range_of, watched_bars, watched_past, watched_run};
-ghost use Rattle.xt_judged.specs.WatchedKept.{AreSettled, judge_in, watched_of};
-ghost use Rattle.xt_outcomes.specs.Places.{is_told};
+ghost use Rattle.xt_search.specs.Changed.{contents_of};
+ghost use Rattle.xt_outcomes.specs.Nexts.{misfits};
+ghost use Rattle.xt_judged.specs.Forgotten.{IsLed, IsOwnTurn, does_misfit};
+ghost use Rattle.xt_judged.specs.Lives.{AreApart};
+ghost use Rattle.xt_judged.specs.OwnJudges.{goes, is_alone, is_over, other_range, own_in, range_of, watched_bars};
+ghost use Rattle.xt_judged.specs.WatchedKept.{AreSettled, own_of, watched_of};
 
 use crate::clock::uses_time;
 use crate::judging::SceneDesk;
-use crate::watched::Watched;
+use crate::own_judges::is_over;
+use crate::watched::{OwnJudge, Watched};
 use std::alloc::{AllocError, Global};
-use xt_outcomes::{Places, Timed};
-use xt_search::Machine;
+use xt_frames::Frames;
+use xt_outcomes::{Places, Side, Timed};
+use xt_search::{Changes, Machine};
 use xt_trace::Stack;
 
 /// The machine of an image, whose cores have a judge each, and what is taken for granted of the words of
-/// memory.
+/// memory. What it takes for granted of dead registers, `timed` has.
 pub struct Watching<'a> {
     pub timed: Timed<'a>,
     pub places: Places,
@@ -49,89 +52,119 @@ impl<'a> Watching<'a> {
         if core == 0 { self.stack1 } else { self.stack0 }
     }
 
-    // One turn of a core. The only error is running out of memory.
+    // A core makes a turn, in place, and its judge becomes the one after it; false: the turn does not fit the
+    // dead registers, and nothing has changed. The only error is running out of memory.
     //
-    // Condition: the core is 0 or 1.
-    fn turn(&self, watched: &Watched, core: u8) -> Result<Watched, AllocError>
-        requires { core < 2 }
-        ensures { let t = self.now.timed in let code = constant_byte t.code in
-            IfOk result (λ w. watched_of t.opening.contents w ≡ watched_past (processor code) code (range_of self.now.stack0) (range_of self.now.stack1) t.timed core (watched_of t.opening.contents watched.now)) }
+    // Conditions: the core is 0 or 1, it makes a turn, and that uses no time.
+    fn turn(
+        &self,
+        frames: &mut Frames,
+        side: &mut Side,
+        changes: &mut Changes,
+        judge: &mut OwnJudge,
+        core: u8,
+    ) -> Result<bool, AllocError>
+        requires core { core < 2 }
+        requires on { is_over (own_of side.old judge.old) ≡ false }
+        requires free { watched_bars (constant_byte self.now.timed.code) self.now.timed.timed (own_of side.old judge.old) ≡ false }
+        requires apart { AreApart judge.old.standing.frames None judge.old.stale }
+        ensures turn { let t = self.now.timed in let m = t.opening.contents in
+            IfOk result (λ b. b ≡ true → IsOwnTurn (constant_byte t.code) t.dead.masks.items (range_of self.now.stack0) (range_of self.now.stack1) t.timed core (own_of side.old judge.old) (contents_of m changes.old) (own_of side.new judge.new) (contents_of m changes.new)) }
+        ensures apart { OnOk result (AreApart judge.new.standing.frames None judge.new.stale) }
+        ensures fit { IfOk result (λ b. b ≡ true → misfits (constant_byte self.now.timed.code) self.now.timed.dead.masks.items side.old ≡ false) }
+        ensures misfit { IfOk result (λ b. b ≡ false → misfits (constant_byte self.now.timed.code) self.now.timed.dead.masks.items side.old ≡ true) }
+        ensures side { IfOk result (λ b. b ≡ false → side.new ≡ side.old) }
+        ensures changes { IfOk result (λ b. b ≡ false → changes.new ≡ changes.old) }
+        ensures judge { IfOk result (λ b. b ≡ false → judge.new ≡ judge.old) }
     {
-        if watched.is_over(core) {
-            return watched.copy();
+        let made = self.timed.make_next(side, changes)?;
+        match made {
+            None => Ok(false),
+            Some(rec) => {
+                judge.kept_past(
+                    self.alloc,
+                    &self.timed.code,
+                    frames,
+                    self.other_stack(core),
+                    core,
+                    &rec,
+                    &self.timed.dead,
+                    side.pc(),
+                )?;
+                Ok(true)
+            }
         }
-        let mut changes = watched.world.changes.copy(self.alloc)?;
-        let (side, rec) = watched.world.side(core).recorded(
-            &self.timed.code,
-            &self.timed.opening,
-            &mut changes,
-            self.timed.timed,
-        )?;
-        let judge = watched.judge(core).past(
-            self.alloc,
-            &self.timed.code,
-            self.other_stack(core),
-            core,
-            &rec,
-        )?;
-        watched.moved(self.alloc, core, side, changes, judge)
     }
 
     // Whether the search has to end before a core makes its turn, since that uses time.
-    fn bars(&self, watched: &Watched, core: u8) -> bool
-        ensures { (m : MemoryContents) → result ≡ watched_bars (constant_byte self.now.timed.code) self.now.timed.timed (own_in core (watched_of m watched.now)) }
+    fn bars(&self, side: &Side, judge: &OwnJudge) -> bool
+        ensures { result ≡ watched_bars (constant_byte self.now.timed.code) self.now.timed.timed (own_of side.now judge.now) }
     {
-        if watched.is_over(core) {
+        if is_over(side, judge) {
             return false;
         }
-        if watched
-            .world
-            .side(core)
-            .bars(&self.timed.code, self.timed.timed)
-        {
+        if side.bars(&self.timed.code, self.timed.timed) {
             return true;
         }
         if self.timed.timed {
             return false;
         }
-        uses_time(&self.timed.code, &watched.judge(core).standing.frames)
+        uses_time(&self.timed.code, &judge.standing.frames)
     }
 
     // Whether a core's next turn uses no time and meets nothing of the other core.
-    fn is_local(&self, watched: &Watched, core: u8) -> bool
-        ensures { (m : MemoryContents) → result ≡ is_alone (constant_byte self.now.timed.code) self.now.timed.timed self.now.places.list.items core (own_in core (watched_of m watched.now)) }
+    fn is_local(&self, side: &Side, judge: &OwnJudge, core: u8) -> bool
+        ensures { result ≡ is_alone (constant_byte self.now.timed.code) self.now.timed.timed self.now.places.list.items core (own_of side.now judge.now) }
     {
-        if watched.is_over(core) {
+        if is_over(side, judge) {
             return false;
         }
-        if self.bars(watched, core) {
+        if self.bars(side, judge) {
             return false;
         }
-        let side = watched.world.side(core);
         let access = side.next_access(&self.timed.code);
         self.places.is_own(core, access)
     }
 
-    // A turn of a core, and then its turns that meet nothing. The only error is running out of memory.
+    // A turn of a core that makes one, and then its turns that meet nothing and fit the dead registers; None:
+    // the first one does not fit them. The only error is running out of memory.
     //
-    // Condition: the core is 0 or 1.
-    fn run(&self, watched: &Watched, core: u8) -> Result<Watched, AllocError>
-        requires { core < 2 }
-        ensures { let t = self.now.timed in let code = constant_byte t.code in
-            IfOk result (λ w. watched_of t.opening.contents w ≡ watched_run code (range_of self.now.stack0) (range_of self.now.stack1) t.timed self.now.places.list.items self.now.most_local core (watched_of t.opening.contents watched.now)) }
+    // Conditions: the core is 0 or 1, and its turn uses no time.
+    fn run(
+        &self,
+        frames: &mut Frames,
+        watched: &Watched,
+        core: u8,
+    ) -> Result<Option<Watched>, AllocError>
+        requires core { core < 2 }
+        requires on { is_over (own_in core (watched_of self.now.timed.opening.contents watched.now)) ≡ false }
+        requires free { watched_bars (constant_byte self.now.timed.code) self.now.timed.timed (own_in core (watched_of self.now.timed.opening.contents watched.now)) ≡ false }
+        ensures led { let t = self.now.timed in
+            IfOk result (λ o. IfSome o (λ w. IsLed (constant_byte t.code) t.dead.masks.items (range_of self.now.stack0) (range_of self.now.stack1) t.timed self.now.places.list.items core (watched_of t.opening.contents watched.now) (watched_of t.opening.contents w))) }
+        ensures misfit { IfOk result (λ o. IfNone o (does_misfit (constant_byte self.now.timed.code) self.now.timed.dead.masks.items core (watched_of self.now.timed.opening.contents watched.now) ≡ true)) }
     {
-        let mut next = self.turn(watched, core)?;
+        let mut changes = watched.world.changes.copy(self.alloc)?;
+        let mut side = watched.world.side(core).copy();
+        let mut judge = watched.judge(core).copy(self.alloc)?;
+        let first = self.turn(frames, &mut side, &mut changes, &mut judge, core)?;
+        if !first {
+            return Ok(None);
+        }
         let mut turns = 1;
         for made in 0..self.most_local {
-            if !self.is_local(&next, core) {
-                next.turns = turns;
-                return Ok(next);
+            if !self.is_local(&side, &judge, core) {
+                let next = watched.moved(self.alloc, core, side, changes, judge, turns)?;
+                return Ok(Some(next));
             }
-            next = self.turn(&next, core)?;
+            let more = self.turn(frames, &mut side, &mut changes, &mut judge, core)?;
+            if !more {
+                let next = watched.moved(self.alloc, core, side, changes, judge, turns)?;
+                return Ok(Some(next));
+            }
             turns += 1;
         }
-        next.turns = turns;
-        Ok(next)
+        let next = watched.moved(self.alloc, core, side, changes, judge, turns)?;
+        Ok(Some(next))
     }
 
     /// Whether both judges go on, and the places tell of both next turns.
@@ -155,11 +188,11 @@ impl<'a> Machine for Watching<'a> {
 
     type Desk = SceneDesk;
 
-    ghost use Rattle.xt_judged.specs.WatchedKept as kept;
+    ghost use Rattle.xt_judged.specs.Forgotten as kept;
 
-    ghost Leads = { λ t c v w. kept.Leads (constant_byte t.timed.code) (range_of t.stack0) (range_of t.stack1) t.timed.timed t.places.list.items t.most_local t.timed.opening.contents c v w };
+    ghost Leads = { λ t c v w. kept.Leads (constant_byte t.timed.code) t.timed.dead.masks.items (range_of t.stack0) (range_of t.stack1) t.timed.timed t.places.list.items t.timed.opening.contents c v w };
 
-    ghost bars = { λ t c w. watched_bars (constant_byte t.timed.code) t.timed.timed (own_in c (watched_of t.timed.opening.contents w)) };
+    ghost bars = { λ t c w. kept.kept_bars (constant_byte t.timed.code) t.timed.dead.masks.items t.timed.timed t.timed.opening.contents c w };
 
     // That no two are the same is not claimed.
     ghost Same = { λ _ _ _. ⊥ };
@@ -174,12 +207,23 @@ impl<'a> Machine for Watching<'a> {
         watched: &Watched,
         core: u8,
     ) -> Result<Option<Watched>, AllocError> {
-        if self.bars(watched, core) {
+        let side = watched.world.side(core);
+        let judge = watched.judge(core);
+        if self.bars(side, judge) {
             return Ok(None);
         }
-        let mut next = self.run(watched, core)?;
-        desk.keep_watched(&mut next)?;
-        Ok(Some(next))
+        if is_over(side, judge) {
+            return Ok(Some(watched.copy()?));
+        }
+        let made = self.run(&mut desk.own, watched, core)?;
+        match made {
+            None => Ok(None),
+            Some(led) => {
+                let mut next = led;
+                desk.keep_watched(&mut next)?;
+                Ok(Some(next))
+            }
+        }
     }
 
     fn is_same(&self, a: &Watched, b: &Watched) -> bool {

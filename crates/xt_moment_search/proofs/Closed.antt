@@ -21,17 +21,21 @@ use Rattle.xt_search.specs.Graphs.{IsAt, IsGraph, IsWhole}
 use Rattle.xt_search.proofs.Endings.{some_at}
 use Rattle.xt_search.proofs.Numbers.{at_within}
 use Rattle.xt_simulation.specs.SecretWorlds.{Learned}
+use Rattle.xt_map.specs.Code.{AreBytes}
+use Rattle.xt_moments.specs.Awaiting.{Awaits, Made}
+use Rattle.xt_moments.proofs.Awaited.{Answer, answers}
 use Rattle.xt_moments.specs.Moments.{IsMove, MomentCore, MomentWorld, core_fired, core_turned, is_armed}
 use Rattle.xt_moments.specs.Moments.{moved, with_special, world_past}
 use Rattle.xt_moments.specs.Outcomes.{AreCounts}
 use Rattle.xt_moments.specs.declared.moves.Move.{Move}
 use Rattle.xt_moments.specs.declared.moves.Move.TheVariants as move
 use Rattle.xt_moments.specs.WorldLaws.{AreAlike}
-use Rattle.xt_moment_search.specs.Covering.{Covers, Leads, Led, LedIn, choices_in, chosen, core_choices}
+use Rattle.xt_moment_search.specs.Covering.{Covers, CoversAt, Leads, Led, LedIn, choices_in, chosen, core_choices}
 use Rattle.xt_moment_search.specs.Covering.{fire_choice, fire_choices, learned_in, standing, turn_choice}
 use Rattle.xt_moment_search.specs.KnownCores.{core_of, known_byte, moment_known_of}
 use Rattle.xt_moment_search.specs.Parts.{HaveSameParts}
 use Rattle.xt_moment_search.specs.declared.ground.Ground.{Ground}
+use Rattle.xt_moment_search.specs.declared.snapshots.Snapshot.{Snapshot}
 use Rattle.xt_moment_search.specs.declared.worlds.World.{World}
 
 -- ---- the moves that a search makes
@@ -97,27 +101,16 @@ same_choices v w h = sym (λ i. core_choices 0 (core_of (h.side0 i)) ++ core_cho
 module _ (opening cleared : MemoryContents) where
   pub same_covers : (v w : World) (u : MomentWorld) → HaveSameParts v w
       → Covers opening cleared v u → Covers opening cleared w u
-  same_covers v w u h c =
-      let l : learned_in cleared v ≡ learned_in cleared w = λ i. record {
-        core0 = moment_known_of (h.side0 i).masks;
-        core1 = moment_known_of (h.side1 i).masks;
-        bytes = known_byte cleared (h.hidden i);
-      } in
-      let s : standing opening v ≡ standing opening w = λ i. record {
-        core0 = core_of (h.side0 i);
-        core1 = core_of (h.side1 i);
-        memory = contents_of opening (h.held i);
-      } in
-      record {
-        alike = subst (λ (x : Learned). AreAlike x (standing opening w) u) l
-            (subst (λ (x : MomentWorld). AreAlike (learned_in cleared v) x u) s c.alike);
-        hidden = subst (λ (x : ChangesState). IsMemory (contents_of cleared x)) h.hidden c.hidden;
-      }
+  same_covers v w u h = subst (λ (x : Snapshot). CoversAt opening cleared x u) (λ i. record {
+    side0 = h.side0 i;
+    side1 = h.side1 i;
+    bytes = record { held = h.held i; hidden = h.hidden i };
+  })
 
 -- ---- all orders with moments
 
 -- of kept worlds of a kind whose steps lead to that kind
-module _ (g : Ground) (graph : Graph World) (is : IsGraph (LedIn g) graph) (whole : IsWhole graph)
+module _ (g : Ground) (bytes : AreBytes (constant_byte g.code)) (graph : Graph World) (is : IsGraph (LedIn g) graph) (whole : IsWhole graph)
     (Kind : ℕ → Type 0)
     (closed : (k : ℕ) (n : Nexts) → slice_get graph.nexts.items k ≡ Some n → Kind k
     → Kind n.by0 × Kind n.by1) where
@@ -194,32 +187,50 @@ module _ (g : Ground) (graph : Graph World) (is : IsGraph (LedIn g) graph) (whol
         r.1,
         r.2,
         r.3,
-        λ count u small c. r.4 count u small (same_covers opening cleared v w u parts c),
+        record {
+          turns = r.4.turns;
+          leads = λ count u small c. r.4.leads count u small
+              (same_covers opening cleared v w u parts c);
+        },
       )
 
-  -- a kept world that stands for this one
-  abbrev Stands : MomentWorld → Type 0
-  Stands u =
-      (to : ℕ) × (w : World) × IsKept to w × (w.passed ≡ 0) × Covers opening cleared w u
+  -- a kept world of whose moves none is passed over
+  pub record Here : Type 0 where
+    pub at : ℕ
+    pub world : World
+    pub kept : IsKept at world
+    pub none : world.passed ≡ 0
 
-  module _ (at : ℕ) (v : World) (h : IsKept at v) (none : v.passed ≡ 0) (count : ℕ)
-      (small : IsWord count) (u : MomentWorld) (c : Covers opening cleared v u) where
-    by_making : (made : Move) → IsIn made (choices_in v) → Stands (moved code count made u)
+  abbrev Stands : Here → MomentWorld → Type 0
+  Stands x u = Covers opening cleared x.world u
+
+  abbrev Answers : Here → Move → Type 0
+  Answers x made = Answer code bytes Here Stands [] x made
+
+  module _ (x : Here) where
+    abbrev v : World
+    v = x.world
+
+    by_making : (made : Move) → IsIn made (choices_in v) → Answers x made
     by_making made i =
-        let r = reaches (choices_in v) at v made h (ap (λ (n : ℕ). drop n (choices_in v)) none) i
-        in
-        (r.0, r.1, r.2, r.3, r.4 count u small c)
+        let r = reaches (choices_in v) x.at v made x.kept
+        (ap (λ (n : ℕ). drop n (choices_in v)) x.none) i in
+        record {
+          next = record { at = r.0; world = r.1; kept = r.2; none = r.3 };
+          left = r.4.turns;
+          leads = r.4.leads;
+        }
 
     -- a move that changes nothing
-    by_staying : (w : MomentWorld) → w ≡ u → Stands w
-    by_staying w same = (
-      at,
-      v,
-      h,
-      none,
-      subst (λ (x : MomentWorld). Covers opening cleared v x)
-          (sym same) c,
-    )
+    by_staying : (made : Move)
+        → ((count : ℕ) (u : MomentWorld) → Covers opening cleared v u
+        → moved code count made u ≡ u)
+        → Answers x made
+    by_staying made same = record {
+      next = x;
+      left = [];
+      leads = λ count u small c. subst (Covers opening cleared v) (sym (same count u c)) c;
+    }
 
     abbrev core0 : MomentCore
     core0 = core_of v.side0.value
@@ -227,11 +238,11 @@ module _ (g : Ground) (graph : Graph World) (is : IsGraph (LedIn g) graph) (whol
     abbrev core1 : MomentCore
     core1 = core_of v.side1.value
 
-    turn0 : Stands (moved code count (move.Turn 0) u)
+    turn0 : Answers x (move.Turn 0)
     turn0 = ⊎_elim
         (λ (e : core0.stopped ≡ true).
-        let f = sym c.alike.agree.core0.stopped ∙ e in
-        by_staying _ (λ i. record u {
+        by_staying (move.Turn 0) (λ count u c. let f = sym c.alike.agree.core0.stopped ∙ e in
+        λ i. record u {
           core0 = cond (f i) u.core0 (core_turned code count u.core0 u.memory);
           memory = cond (f i) u.memory
               (memory_left (demand code (with_special number.ccount count u.core0.state)) u.memory);
@@ -240,11 +251,11 @@ module _ (g : Ground) (graph : Graph World) (is : IsGraph (LedIn g) graph) (whol
         (in_first (move.Turn 0) (core_choices 0 core0) (core_choices 1 core1) (turn_in 0 core0 e)))
         (cases_Bool core0.stopped)
 
-    turn1 : Stands (moved code count (move.Turn 1) u)
+    turn1 : Answers x (move.Turn 1)
     turn1 = ⊎_elim
         (λ (e : core1.stopped ≡ true).
-        let f = sym c.alike.agree.core1.stopped ∙ e in
-        by_staying _ (λ i. record u {
+        by_staying (move.Turn 1) (λ count u c. let f = sym c.alike.agree.core1.stopped ∙ e in
+        λ i. record u {
           core1 = cond (f i) u.core1 (core_turned code count u.core1 u.memory);
           memory = cond (f i) u.memory
               (memory_left (demand code (with_special number.ccount count u.core1.state)) u.memory);
@@ -269,27 +280,29 @@ module _ (g : Ground) (graph : Graph World) (is : IsGraph (LedIn g) graph) (whol
           stopped = k.stopped;
         }) k) f
 
-    fire0 : (timer : ℕ) → timer < 3 → Stands (moved code count (move.Fires 0 timer) u)
+    fire0 : (timer : ℕ) → timer < 3 → Answers x (move.Fires 0 timer)
     fire0 timer few = ⊎_elim
         (λ (e : is_armed timer core0 ≡ true). by_making (move.Fires 0 timer)
         (in_first (move.Fires 0 timer) (core_choices 0 core0) (core_choices 1 core1)
         (fire_in 0 core0 timer few e)))
         (λ (e : is_armed timer core0 ≡ false).
+        by_staying (move.Fires 0 timer) (λ count u c.
         let same = unarmed timer core0 u.core0 c.alike.agree.core0.armed e in
-        by_staying _ (λ i. record u { core0 = same i }))
+        λ i. record u { core0 = same i }))
         (cases_Bool (is_armed timer core0))
 
-    fire1 : (timer : ℕ) → timer < 3 → Stands (moved code count (move.Fires 1 timer) u)
+    fire1 : (timer : ℕ) → timer < 3 → Answers x (move.Fires 1 timer)
     fire1 timer few = ⊎_elim
         (λ (e : is_armed timer core1 ≡ true). by_making (move.Fires 1 timer)
         (in_second (move.Fires 1 timer) (core_choices 0 core0) (core_choices 1 core1)
         (fire_in 1 core1 timer few e)))
         (λ (e : is_armed timer core1 ≡ false).
+        by_staying (move.Fires 1 timer) (λ count u c.
         let same = unarmed timer core1 u.core1 c.alike.agree.core1.armed e in
-        by_staying _ (λ i. record u { core1 = same i }))
+        λ i. record u { core1 = same i }))
         (cases_Bool (is_armed timer core1))
 
-    by_move : (made : Move) → IsMove made → Stands (moved code count made u)
+    by_move : (made : Move) → IsMove made → Answers x made
     by_move (move.Turn zero) ok = turn0
     by_move (move.Turn (suc zero)) ok = turn1
     by_move (move.Turn (suc (suc n))) ok = absurd (omega (arith, ok))
@@ -297,13 +310,20 @@ module _ (g : Ground) (graph : Graph World) (is : IsGraph (LedIn g) graph) (whol
     by_move (move.Fires (suc zero) timer) ok = fire1 timer ok.1
     by_move (move.Fires (suc (suc n)) timer) ok = let few = ok.0 in absurd (omega (arith, few))
 
-  -- a kept world stands for what comes of each order with moments
+  -- a kept world that stands for this one after turns that may come before other moves
+  pub record StandsFor (u : MomentWorld) : Type 0 where
+    pub here : Here
+    pub turns : List Made
+    pub awaits : Awaits code (Stands here) turns u
+
+  -- a kept world stands so for what comes of each order with moments
   pub stands_for_all : (order : List Move) (counts : ℕ → ℕ) → AreCounts counts → All IsMove order
-      → (at : ℕ) (v : World) → IsKept at v → v.passed ≡ 0 → (u : MomentWorld)
-      → Covers opening cleared v u → Stands (world_past code counts order u)
-  stands_for_all [] counts small moves at v h none u c = (at, v, h, none, c)
-  stands_for_all (x ∷ xs) counts small moves at v h none u c =
-      let s = by_move at v h none (counts 0) (small 0) u c x (All-head IsMove x xs moves) in
-      stands_for_all xs (λ n. counts (suc n)) (λ n. small (suc n))
-      (All-tail IsMove x xs moves) s.0 s.1 s.2 s.3
-      (moved code (counts 0) x u) s.4
+      → (x : Here) (turns : List Made) (u : MomentWorld) → Awaits code (Stands x) turns u
+      → StandsFor (world_past code counts order u)
+  stands_for_all [] counts small moves x turns u a =
+      record { here = x; turns = turns; awaits = a }
+  stands_for_all (m ∷ ms) counts small moves x turns u a =
+      let r = answers code bytes Here Stands by_move turns x m (All-head IsMove m ms moves) in
+      stands_for_all ms (λ n. counts (suc n)) (λ n. small (suc n))
+      (All-tail IsMove m ms moves) r.next r.left (moved code (counts 0) m u)
+      (r.leads (counts 0) u (small 0) a)

@@ -36,7 +36,7 @@ use Rattle.xt_bus.proofs.Opening.{opening_sends_none}
 use Rattle.xt_moments.specs.WorldLaws.{AreAlike, AreKnown, IsShapedWorld, opening_learned}
 use Rattle.xt_moments.proofs.OneOutcome.{alike_at_start, words_same}
 use Rattle.xt_moment_search.specs.Covering.{Covers, LedIn, learned_in, standing}
-use Rattle.xt_moment_search.specs.KnownCores.{core_of, known_byte, without_clocks}
+use Rattle.xt_moment_search.specs.KnownCores.{core_of, known_byte}
 use Rattle.xt_moment_search.specs.Listed.{AreListed}
 use Rattle.xt_moment_search.specs.Opened.{IsGroundOf, IsOpen}
 use Rattle.xt_moment_search.specs.Stuckness.{Ends, IsStuckAnswer, IsStuckOrder, has_ended}
@@ -47,7 +47,10 @@ use Rattle.xt_moment_search.specs.declared.found.Found.{Found}
 use Rattle.xt_moment_search.specs.declared.ground.Ground.{Ground}
 use Rattle.xt_moment_search.specs.declared.worlds.World.{World}
 use Rattle.xt_moment_search.proofs.Closed.{stands_for_all}
-use Rattle.xt_moment_search.proofs.Ended.{past_append}
+use Rattle.xt_moment_search.proofs.Ended.{past_append, turns_are_moves}
+use Rattle.std.proofs.lemmas.List.Elements.{All-append}
+use Rattle.xt_moments.specs.Awaiting.{turns_in}
+use Rattle.xt_moments.proofs.Awaited.{after_turns, once_stopped}
 
 -- ---- a memory of zeros
 
@@ -155,8 +158,8 @@ module _ (image : Image) (o : Options) (fits : FitsImage image) (g : Ground)
 
   learnt : learned_in g.cleared.contents w ≡ opening_learned
   learnt = λ i. record {
-    core0 = without_clocks (begun.masks0 i);
-    core1 = without_clocks (begun.masks1 i);
+    core0 = begun.masks0 i;
+    core1 = begun.masks1 i;
     bytes = λ a. ((λ j. known_byte (ground.cleared j) (begun.hidden j) a) ∙ all_known a) i;
   }
 
@@ -206,14 +209,18 @@ has_all image o addresses g graph w xs fits ground begun is whole begins listed 
         (constant_byte g.code)
     told ended =
         let start = opening_world (opening_of image o) in
-        let s = stands_for_all g graph is whole (λ k. Unit {0}) (λ k n here q. (tt, tt)) order counts
-        small
-        moves 0 w (begins, tt) begun.passed start (covers_start image o fits g ground w begun) in
-        let v = s.1 in
-        let h = s.4.alike in
+        let s = stands_for_all g g.bytes graph is whole (λ k. Unit {0}) (λ k n here q. (tt, tt))
+        order counts small moves
+        (record { at = 0; world = w; kept = (begins, tt); none = begun.passed }) [] start
+        (covers_start image o fits g ground w begun) in
+        let v = s.here.world in
+        let covers = once_stopped (constant_byte g.code) g.bytes
+        (Covers g.opening.contents g.cleared.contents v) s.turns
+        (world_past (constant_byte g.code) counts order start) ended s.awaits in
+        let h = covers.alike in
         let stopped : (v.side0.value.stopped && v.side1.value.stopped) ≡ true =
         (λ i. h.agree.core0.stopped i && h.agree.core1.stopped i) ∙ ended in
-        let l = listed s.0 v s.2.0 stopped in
+        let l = listed s.here.at v s.here.kept.0 stopped in
         subst (λ (x : MomentOutcome). Contains (outcomes_in xs) x)
         (outcome_same (learned_in g.cleared.contents v) (standing g.opening.contents v)
         (world_past (constant_byte g.code) counts order start) addresses h l.0) l.1
@@ -240,15 +247,23 @@ module _ (image : Image) (o : Options) (g : Ground) (graph : Graph World) (w : W
     where
       can : IsContinued counts order from code
       can =
-          let s = stands_for_all g graph is whole (λ k. Unit {0}) (λ k n here q. (tt, tt)) order
-          counts small moves 0 w (begins, tt) begun.passed from
+          let s = stands_for_all g g.bytes graph is whole (λ k. Unit {0}) (λ k n here q. (tt, tt))
+          order counts small moves
+          (record { at = 0; world = w; kept = (begins, tt); none = begun.passed }) [] from
           (covers_start image o fits g ground w begun) in
-          let e = ends s.0 s.1 s.2.0 s.3 in
-          let c = e.leads (λ n. counts (length order + n)) (λ n. small (length order + n))
-          (world_past code counts order from) s.4 in (
-            e.moves,
-            e.are_moves,
-            ap have_stopped (past_append code counts order e.moves from)
+          let u = world_past code counts order from in
+          let ts = turns_in s.turns in
+          let later : ℕ → ℕ = λ n. counts (length order + n) in
+          let there = after_turns code g.bytes
+          (Covers g.opening.contents g.cleared.contents s.here.world) s.turns u later
+          (λ n. small (length order + n)) s.awaits in
+          let e = ends s.here.at s.here.world s.here.kept.0 s.here.none in
+          let c = e.leads (λ n. later (length ts + n)) (λ n. small (length order + (length ts + n)))
+          (world_past code later ts u) there in (
+            ts ++ e.moves,
+            All-append IsMove ts e.moves (turns_are_moves g s.turns) e.are_moves,
+            ap have_stopped (past_append code counts order (ts ++ e.moves) from
+                ∙ past_append code later ts e.moves u)
                 ∙ (same_end e.end _ c ∙ e.ended),
           )
 
@@ -263,12 +278,23 @@ module _ (image : Image) (o : Options) (g : Ground) (graph : Graph World) (w : W
           let v = h.unmarked in
           let c = h.leads w v.world begins v.kept counts small from
           (covers_start image o fits g ground w begun) in
-          let s = stands_for_all g graph is whole (λ k. slice_get h.marks k ≡ Some false)
-          (λ k n here q. (h.settled k q).nexts n q here) more (λ n. counts (length order + n))
-          (λ n. small (length order + n)) moves h.number v.world (v.kept, v.unmarked) v.passed
-          (world_past code counts order from) c in
+          let later : ℕ → ℕ = λ n. counts (length order + n) in
+          let s = stands_for_all g g.bytes graph is whole (λ k. slice_get h.marks k ≡ Some false)
+          (λ k n here q. (h.settled k q).nexts n q here) more later
+          (λ n. small (length order + n)) moves
+          (record { at = h.number; world = v.world; kept = (v.kept, v.unmarked); none = v.passed })
+          [] (world_past code counts order from) c in
+          let u = world_past code later more (world_past code counts order from) in
+          let going = (h.settled s.here.at s.here.kept.1).no_end s.here.world s.here.kept.1
+          s.here.kept.0 in
           ap have_stopped (past_append code counts order more from)
-          ∙ (same_end s.1 _ s.4 ∙ (h.settled s.0 s.2.1).no_end s.1 s.2.1 s.2.0)
+          ∙ ⊎_elim
+          (λ (ended : have_stopped u ≡ true).
+          let covers = once_stopped code g.bytes
+          (Covers g.opening.contents g.cleared.contents s.here.world) s.turns u ended s.awaits in
+          same_end s.here.world u covers ∙ going)
+          (λ (not_yet : have_stopped u ≡ false). not_yet)
+          (cases_Bool (have_stopped u))
 
   pub stuck_told : (s : Stuck) → IsStuckAnswer g graph s
       → IsStuckOf (code_of image) (opening_of image o) s

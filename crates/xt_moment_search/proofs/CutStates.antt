@@ -18,10 +18,9 @@ use Rattle.xt_timeless.proofs.Lists.{cleared_alike}
 use Rattle.xt_simulation.specs.Knowledge.{Knowledge, StatesAgree}
 use Rattle.xt_simulation.proofs.SecretSpecials.{unequal}
 use Rattle.xt_secret_walk.specs.declared.masks.CoreMasks.{CoreMasks}
-use Rattle.xt_secret_walk.specs.SeenWords.{special_mask}
 use Rattle.xt_moments.specs.Moments.{MomentCore, core_fired, is_armed, with_special}
 use Rattle.xt_moments.specs.MomentLaws.{is_clock}
-use Rattle.xt_moment_search.specs.KnownCores.{IsCut, core_of, moment_known_of}
+use Rattle.xt_moment_search.specs.KnownCores.{IsCut, core_of, kept_mask, moment_known_of}
 use Rattle.xt_moment_search.specs.Sides.{KnownCore}
 
 -- ---- registers
@@ -90,7 +89,7 @@ module _ (c : CoreMasks) (s t : State) (i : ℕ) (f : IsShaped s) (cut : IsCut c
   specials_agree : (n : ℕ)
       → AgreeIn (m.special n) (get_or (set xs 226 i) n 0) (get_or (set ys 226 i) n 0)
   specials_agree n = ⊎_elim
-      (λ clock. subst (λ (b : Bool). AgreeIn (cond b 0 (special_mask c n)) (get_or (set xs 226 i) n 0)
+      (λ clock. subst (λ (b : Bool). AgreeIn (cond b 0 (kept_mask c n)) (get_or (set xs 226 i) n 0)
       (get_or (set ys 226 i) n 0)) (sym clock) (agree_none (get_or (set xs 226 i) n 0) (get_or (set ys 226 i) n 0)))
       (λ clock. ⊎_elim
       (λ is. ap (masked (m.special n)) (ap (λ (j : ℕ). get_or (set xs 226 i) j 0) is

@@ -1,25 +1,29 @@
 -- Which orders with moments can be continued until both cores have stopped.
 use Rattle.std.proofs.Common.{◌≡◌, ℕ, zero, suc, ◌+◌, ◌<◌, Bool, true, false, cond, eqb}
-use Rattle.std.proofs.Common.{Some, List, [], ◌∷◌, ◌++◌, drop, length, reverse, slice_get, sym, ap, ◌∙◌, subst, arith}
+use Rattle.std.proofs.Common.{Some, List, [], ◌∷◌, ◌++◌, drop, length, reverse, slice_get, refl, sym, ap, ◌∙◌, subst, arith}
 use Rattle.std.specs.List.{All}
-use Rattle.std.proofs.lemmas.List.{append-nil, reverse-append}
+use Rattle.std.proofs.lemmas.List.{reverse-append, reverse-reverse}
 use Rattle.std.proofs.lemmas.List.Elements.{All-append, All-cons, All-drop, All-head, All-nil, All-tail}
 use Rattle.xt_map.specs.Memory.{constant_byte}
 use Rattle.xt_search.specs.declared.graph.Graph.{Graph}
 use Rattle.xt_search.specs.Ends.{AreMarks, IsSettled}
 use Rattle.xt_search.specs.Graphs.{IsAt}
 use Rattle.xt_search.specs.Worlds.{Reaches}
+use Rattle.xt_moments.specs.Awaiting.{Awaits, Made, turn_in, turns_in}
+use Rattle.xt_moments.proofs.Awaited.{after_turns}
 use Rattle.xt_moments.specs.Moments.{IsMove, MomentCore, MomentWorld, is_armed, moved, world_past}
 use Rattle.xt_moments.specs.declared.moves.Move.{Move}
 use Rattle.xt_moments.specs.declared.moves.Move.TheVariants as move
-use Rattle.xt_moment_search.specs.Covering.{Covers, Led, LedIn, choices_in, chosen, core_choices}
+use Rattle.xt_moment_search.specs.Covering.{Covers, CoversAt, HasRun, Leads, Led, LedIn, choices_in, chosen, core_choices, snapshot_of}
 use Rattle.xt_moment_search.specs.Covering.{fire_choice, fire_choices, step_of, turn_choice}
 use Rattle.xt_moment_search.specs.KnownCores.{core_of}
-use Rattle.xt_moment_search.specs.Stuckness.{MovesLead, NeverStuck, has_ended}
-use Rattle.xt_moment_search.specs.Turns.{MakesMove, moves_of}
+use Rattle.xt_moment_search.specs.Stuckness.{IsPath, MovesLead, NeverStuck, has_ended}
+use Rattle.xt_moment_search.specs.Turns.{IsPassing, MakesMove}
 use Rattle.xt_moment_search.specs.declared.ground.Ground.{Ground}
 use Rattle.xt_moment_search.specs.declared.machine.Step.{Step}
 use Rattle.xt_moment_search.specs.declared.machine.Step.TheVariants as step
+use Rattle.xt_moment_search.specs.declared.machine.Run.{Run}
+use Rattle.xt_moment_search.specs.declared.snapshots.Snapshot.{Snapshot}
 use Rattle.xt_moment_search.specs.declared.worlds.World.{World}
 use Rattle.xt_moment_search.proofs.Closed.{same_covers}
 
@@ -89,21 +93,42 @@ module _ (g : Ground) where
   abbrev Cover : World → MomentWorld → Type 0
   Cover v u = Covers g.opening.contents g.cleared.contents v u
 
-  -- a step before the moves that are listed last first
-  reversed : (s : Step) (xs : List Move) → reverse (xs ++ moves_of s) ≡ moves_of s ++ reverse xs
-  reversed (step.Makes made) xs = reverse-append xs (made ∷ [])
-  reversed (step.Passes passed) xs = ap reverse (append-nil xs)
-  reversed step.Rests xs = ap reverse (append-nil xs)
+  -- the moves of a step that led from v to w
+  abbrev moves_led : (s : Step) (v w : World)
+      → Led (constant_byte g.code) g.opening.contents g.cleared.contents s v w → List Move
+  moves_led (step.Makes made) v w led = made ∷ turns_in led.1.turns
+  moves_led (step.Passes passed) v w led = []
+  moves_led step.Rests v w led = []
 
-  made_all : (s : Step) → MakesMove s → All IsMove (moves_of s)
-  made_all (step.Makes made) is = All-cons IsMove made [] is (All-nil IsMove)
-  made_all (step.Passes passed) is = All-nil IsMove
-  made_all step.Rests is = All-nil IsMove
+  pub turns_are_moves : (es : List Made) → All IsMove (turns_in es)
+  turns_are_moves [] = All-nil IsMove
+  turns_are_moves (e ∷ es) = All-cons IsMove (turn_in e.core) (turns_in es) (one e.core)
+      (turns_are_moves es)
+    where
+      one : (c : ℕ) → IsMove (turn_in c)
+      one zero = omega arith
+      one (suc c) = omega arith
+
+  made_all : (s : Step) (v w : World) → MakesMove s
+      → (led : Led (constant_byte g.code) g.opening.contents g.cleared.contents s v w)
+      → All IsMove (moves_led s v w led)
+  made_all (step.Makes made) v w is led = All-cons IsMove made (turns_in led.1.turns) is
+      (turns_are_moves led.1.turns)
+  made_all (step.Passes passed) v w is led = All-nil IsMove
+  made_all step.Rests v w is led = All-nil IsMove
+
+  pub run_leads : (made : Move) (v w : World)
+      → (l : Leads (constant_byte g.code) g.opening.contents g.cleared.contents made v w)
+      → MovesLead g (made ∷ turns_in l.turns) v w
+  run_leads made v w l = λ counts small u c.
+      after_turns (constant_byte g.code) g.bytes (Cover w) l.turns
+      (moved (constant_byte g.code) (counts 0) made u) (λ n. counts (suc n)) (λ n. small (suc n))
+      (l.leads (counts 0) u (small 0) c)
 
   made_lead : (s : Step) (v w : World)
-      → Led (constant_byte g.code) g.opening.contents g.cleared.contents s v w
-      → MovesLead g (moves_of s) v w
-  made_lead (step.Makes made) v w led = λ counts small u c. led.1 (counts 0) u (small 0) c
+      → (led : Led (constant_byte g.code) g.opening.contents g.cleared.contents s v w)
+      → MovesLead g (moves_led s v w led) v w
+  made_lead (step.Makes made) v w led = run_leads made v w led.1
   made_lead (step.Passes passed) v w led = λ counts small u c.
       same_covers g.opening.contents g.cleared.contents v w u led.1 c
   made_lead step.Rests v w led = λ counts small u c.
@@ -132,8 +157,8 @@ module _ (g : Ground) where
   step_path : (s : Step) (v w : World) → MakesMove s
       → Led (constant_byte g.code) g.opening.contents g.cleared.contents s v w → Path v w
   step_path s v w is led = record {
-    moves = moves_of s;
-    are_moves = made_all s is;
+    moves = moves_led s v w led;
+    are_moves = made_all s v w is led;
     leads = made_lead s v w led;
   }
 
@@ -151,18 +176,56 @@ module _ (g : Ground) where
   path_of [] v w same = subst (Path v) same (no_path v)
   path_of (n ∷ ns) v w h = both_paths v h.0 w (one_path n v h.0 h.1) (path_of ns h.0 w h.2)
 
-  -- one step more, found first
-  pub more_leads : (s : Step) (xs : List Move) (v w x : World)
-      → Led (constant_byte g.code) g.opening.contents g.cleared.contents s v w
-      → MovesLead g (reverse xs) w x → MovesLead g (reverse (xs ++ moves_of s)) v x
-  more_leads s xs v w x led rest = subst (λ (l : List Move). MovesLead g l v x)
-      (sym (reversed s xs))
-      (both_lead (moves_of s) (reverse xs) v w x (made_lead s v w led) rest)
+  -- ---- an order that is found last move first
 
-  pub more_moves : (s : Step) (xs : List Move) → MakesMove s → All IsMove (reverse xs)
-      → All IsMove (reverse (xs ++ moves_of s))
-  more_moves s xs is all = subst (All IsMove) (sym (reversed s xs))
-      (All-append IsMove (moves_of s) (reverse xs) (made_all s is) all)
+  -- a step that makes no move
+  pub no_moves : (s : Step) (v w : World) → IsPassing s
+      → Led (constant_byte g.code) g.opening.contents g.cleared.contents s v w → IsPath g [] v w
+  no_moves (step.Makes made) v w none led = absurd none
+  no_moves (step.Passes passed) v w none led = record {
+    are_moves = All-nil IsMove;
+    leads = made_lead (step.Passes passed) v w led;
+  }
+  no_moves step.Rests v w none led = record {
+    are_moves = All-nil IsMove;
+    leads = made_lead step.Rests v w led;
+  }
+
+  -- a run that came to a copy of w
+  pub ran_path : (made : Move) (v w : World) (r : Run) (back : List Move) → IsMove made
+      → HasRun (constant_byte g.code) g.opening.contents g.cleared.contents made (snapshot_of v) r
+      → r.at ≡ snapshot_of w → back ≡ reverse r.trail.items → IsPath g (reverse back) v w
+  ran_path made v w r back is h at backward =
+      let code = constant_byte g.code in
+      let opening = g.opening.contents in
+      let cleared = g.cleared.contents in
+      let ts = h.lead.turns in
+      let l : Leads code opening cleared made v w = record {
+        turns = ts;
+        leads = λ count u small c.
+            subst (λ (x : Snapshot). Awaits code (CoversAt opening cleared x) ts
+            (moved code count made u)) at (h.lead.leads count u small c);
+      } in
+      let trail : made ∷ turns_in ts ≡ reverse back =
+      sym h.trail ∙ sym (reverse-reverse r.trail.items) ∙ ap reverse (sym backward) in
+      subst (λ (ms : List Move). IsPath g ms v w) trail (record {
+        are_moves = All-cons IsMove made (turns_in ts) is (turns_are_moves ts);
+        leads = run_leads made v w l;
+      })
+
+  pub more_moves : (back order : List Move) → All IsMove (reverse back)
+      → All IsMove (reverse order) → All IsMove (reverse (order ++ back))
+  more_moves back order p q =
+      subst (All IsMove) (sym (reverse-append order back))
+      (All-append IsMove (reverse back) (reverse order) p q)
+
+  pub paths_back : (back order : List Move) (v w x : World) → IsPath g (reverse back) v w
+      → IsPath g (reverse order) w x → IsPath g (reverse (order ++ back)) v x
+  paths_back back order v w x p q =
+      subst (λ (ms : List Move). IsPath g ms v x) (sym (reverse-append order back)) (record {
+        are_moves = All-append IsMove (reverse back) (reverse order) p.are_moves q.are_moves;
+        leads = both_lead (reverse back) (reverse order) v w x p.leads q.leads;
+      })
 
 -- ---- marked worlds
 

@@ -6,6 +6,8 @@ mod Used
 mod Learnt
 mod CutStates
 mod HiddenBytes
+mod Calm
+mod Forgotten
 mod Leading
 mod Closed
 mod TurnedCores

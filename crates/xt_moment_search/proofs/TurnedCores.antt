@@ -31,9 +31,8 @@ use Rattle.xt_secret_walk.specs.SeenWords.{turn_uses}
 use Rattle.xt_moments.specs.Moments.{armed_in, arms, with_timers}
 use Rattle.xt_moments.specs.MomentLaws.{IsMomentKnown, entered_known, enters, executes_clock}
 use Rattle.xt_moments.specs.MomentLaws.{moment_known, moment_used}
-use Rattle.xt_moments.proofs.Masks.{entered_whole}
 use Rattle.xt_moment_search.specs.KnownCores.{IsSeen, deciding, insn_of, known_byte, moment_known_of}
-use Rattle.xt_moment_search.specs.KnownCores.{seen_arms}
+use Rattle.xt_moment_search.specs.KnownCores.{reads_lost, seen_arms}
 use Rattle.xt_moment_search.specs.Sides.{KnownCore}
 use Rattle.xt_moment_search.specs.Turned.{IsTurnedFrom, turn_from}
 use Rattle.xt_moment_search.specs.declared.bytes.Bytes.{Bytes}
@@ -103,6 +102,16 @@ module _ (c : CoreMasks) (s : State) where
   seen_was (kind.Exc cause) f = tt
   seen_was kind.Stop f = tt
 
+-- what is executed reads no more of EPC1 than what was seen
+executed_kept : (c : CoreMasks) (x : StepKind) (seen : Option Seen) → reads_lost c seen ≡ false
+    → reads_lost c (executed_in x seen) ≡ false
+executed_kept c kind.Insn seen h = h
+executed_kept c (kind.Interrupt level) seen h = refl
+executed_kept c kind.Wait seen h = refl
+executed_kept c (kind.Window vector) seen h = refl
+executed_kept c (kind.Exc cause) seen h = refl
+executed_kept c kind.Stop seen h = refl
+
 -- ---- all of a turn
 
 pub record IsMade (code : ℕ → ℕ) (opening cleared : MemoryContents) (s : State)
@@ -111,6 +120,7 @@ pub record IsMade (code : ℕ → ℕ) (opening cleared : MemoryContents) (s : S
   pub going : old.stopped ≡ false
   pub turned : (x, u) ≡ turn_from code s (contents_of opening b.held)
   pub found : seen ≡ seen_of (fetch_at code s.control.pc) (knowledge_of old.masks) s
+  pub kept : reads_lost old.masks seen ≡ false
   pub good : IsGoodSeen seen
   pub reply_is : IsMemory (contents_of cleared b.hidden)
       → reply ≡ reply_mask (known_byte cleared b.hidden) x.access
@@ -123,9 +133,11 @@ pub record IsMade (code : ℕ → ℕ) (opening cleared : MemoryContents) (s : S
       ≡ mask_stored stored x.access (known_byte cleared b.hidden) a
   pub memory : IsMemory (contents_of cleared b.hidden) → IsMemory (contents_of cleared c.hidden)
   pub base_is : base ≡ u.base
-  pub learnt : (t : State) → IsSeen old.masks t executed → IsMomentKnown (moment_known_of old.masks)
+  pub learnt : (t : State) → IsSeen old.masks t executed → reads_lost old.masks executed ≡ false
+      → IsMomentKnown (moment_known_of old.masks)
       → moment_known_of new.masks
-      ≡ moment_known (insn_of executed) x.write base reply (moment_known_of old.masks) t
+      ≡ entered_known (enters x.kind s.control.ps)
+      (moment_known (insn_of executed) x.write base reply (moment_known_of old.masks) t)
   pub before_is : before ≡ special_of s.control 226
   pub armed_is : armed ≡ seen_arms executed
   pub state : StatesAgree (moment_known_of new.masks) (with_timers before armed u) new.state
@@ -181,25 +193,31 @@ module _ (code : ℕ → ℕ) (opening cleared : MemoryContents) (s : State)
         let seen_so = subst (λ (y : Option Seen). turn_uses x.kind x.access (deciding x.kind y) reply
         ≡ true) h.found h.uses in
         let good = subst IsGoodSeen h.found h.good in
+        let kept = subst (λ (y : Option Seen). reads_lost old.masks y ≡ false) h.found h.kept in
         let planned = kinds ∙ kind_is code s asked in
         let r = replied i in
         sym (λ j. found_used (accesses j) (r j)
         && (executes_clock (step_insn (planned j) f)
         || turn_used code (planned j) (accesses j) (r j) m s))
-        ∙ uses_are old.masks s code x.kind x.access reply good seen_so
+        ∙ uses_are old.masks s code x.kind x.access reply good kept seen_so
 
     known : IsMemory (contents_of cleared b.hidden) → IsMomentKnown m
         → moment_known_of new.masks
-        ≡ moment_known (step_insn t.0.kind f) t.0.write t.1.base
-        (reply_mask (known_byte cleared b.hidden) (demand code s)) m s
+        ≡ entered_known (enters t.0.kind s.control.ps)
+        (moment_known (step_insn t.0.kind f) t.0.write t.1.base
+        (reply_mask (known_byte cleared b.hidden) (demand code s)) m s)
     known i k =
         let was = subst (IsSeen old.masks s) (sym seen_is) (seen_was old.masks s x.kind f) in
+        let kept : reads_lost old.masks executed ≡ false =
+        ap (reads_lost old.masks) h.executed_is
+        ∙ executed_kept old.masks x.kind seen h.kept in
         let insn : insn_of executed ≡ step_insn t.0.kind f =
         ap insn_of seen_is ∙ (insn_is old.masks s x.kind f
         ∙ ap (λ (y : StepKind). step_insn y f) kinds) in
         let base : base ≡ t.1.base = h.base_is ∙ ap (λ (y : State). y.base) left in
         let r = replied i in
-        h.learnt s was k ∙ (λ j. moment_known (insn j) (rec j).write (base j) (r j) m s)
+        h.learnt s was kept k ∙ (λ j. entered_known (enters (kinds j) s.control.ps)
+        (moment_known (insn j) (rec j).write (base j) (r j) m s))
 
     bytes : (a : ℕ) → is_byte a ≡ true
         → known_byte cleared c.hidden a
@@ -219,10 +237,7 @@ module _ (code : ℕ → ℕ) (opening cleared : MemoryContents) (s : State)
       shaped = h.shaped;
       hidden = h.memory;
       used = used;
-      known = λ i k.
-          let b = enters t.0.kind s.control.ps in
-          sym (entered_whole b (moment_known_of new.masks) refl)
-          ∙ ap (entered_known b) (known i k);
+      known = known;
       bytes = bytes;
       state = subst (λ (y : State). StatesAgree (moment_known_of new.masks) y new.state)
           (λ j. with_timers (h.before_is j) (arms_now j) (left j)) h.state;

@@ -1,8 +1,8 @@
 -- What a turn uses where nothing is known of the clocks.
 use Rattle.std.proofs.Common.{◌≡◌, ℕ, ℤ, pos, negsuc, ◌+◌, ◌≤◌, ◌&&◌, ◌||◌, Bool, true, false, not}
-use Rattle.std.proofs.Common.{cond, eqb, Option, Some, None, refl, ap, ◌∙◌, arith, subst}
-use Rattle.std.specs.Prelude.{bit_and}
-use Rattle.std.proofs.lemmas.Bool.{and_parts, cond-false}
+use Rattle.std.proofs.Common.{cond, eqb, Option, Some, None, refl, sym, ap, ◌∙◌, arith, subst}
+use Rattle.std.specs.Prelude.{bit_and, slice_index_or}
+use Rattle.std.proofs.lemmas.Bool.{and_parts, cond-false, eqb-true, not-false, or_parts}
 use Rattle.std.proofs.lemmas.Bool.Decides.{nat_tests}
 use Rattle.xt_isa.specs.declared.Insn.{Insn}
 use Rattle.xt_isa.specs.declared.Insn.TheVariants as insn
@@ -39,30 +39,31 @@ use Rattle.xt_simulation.specs.TurnUses.{specials_used, turn_used, window_used}
 use Rattle.xt_secret_walk.specs.declared.masks.CoreMasks.{CoreMasks}
 use Rattle.xt_secret_walk.specs.SeenWords.{IsGoodSeen, executed_in, knowledge_of, seen_of, seen_uses}
 use Rattle.xt_secret_walk.specs.SeenWords.{special_mask, turn_uses}
-use Rattle.xt_moments.specs.MomentLaws.{executes_clock, is_clock}
-use Rattle.xt_moment_search.specs.KnownCores.{clock_written, deciding, moment_known_of, reads_clock}
+use Rattle.xt_moments.specs.MomentLaws.{executes_clock, is_clock, may_be_lost}
+use Rattle.xt_moment_search.specs.KnownCores.{clock_written, deciding, kept_mask, misses_epc1}
+use Rattle.xt_moment_search.specs.KnownCores.{moment_known_of, reads_clock, reads_lost}
 
 -- ---- the special registers that are always known
 
 -- it is no clock, and keeps nothing that is not known
 record IsPlain (n : ℕ) : Type 0 where
-  marks : holds_marks n ≡ false
+  lost : may_be_lost n ≡ false
   clock : is_clock n ≡ false
 
 abbrev ArePlain : Option ℕ → Type 0
 ArePlain None = Unit {0}
 ArePlain (Some n) = IsPlain n
 
-level_marks : (first n : ℕ) → 2 ≤ n → n ≤ 7 → first ≤ 192 → 176 ≤ first
-    → holds_marks (first + n) ≡ false
-level_marks first n low high less more = grind (arith, nat_tests)
+level_kept : (first n : ℕ) → 2 ≤ n → n ≤ 7 → first ≤ 192 → 176 ≤ first
+    → may_be_lost (first + n) ≡ false
+level_kept first n low high less more = grind (arith, nat_tests)
 
 level_clock : (first n : ℕ) → n ≤ 7 → first ≤ 192 → is_clock (first + n) ≡ false
 level_clock first n high less = grind (arith, nat_tests)
 
 level_plain : (first n : ℕ) → 2 ≤ n → n ≤ 7 → first ≤ 192 → 176 ≤ first → IsPlain (first + n)
 level_plain first n low high less more = record {
-  marks = level_marks first n low high less more;
+  lost = level_kept first n low high less more;
   clock = level_clock first n high less;
 }
 
@@ -71,41 +72,92 @@ unfolding natural natural_within
 level_range (pos n) e = (grind (arith, nat_tests), grind (arith, nat_tests))
 level_range (negsuc n) e = absurd cc
 
--- no row but RSR and XSR reads a clock
-abbrev pub IsNoClock : Option ℕ → Type 0
-IsNoClock None = Unit {0}
-IsNoClock (Some n) = is_clock n ≡ false
+level_is_plain : (l : ℤ) → natural_within 2 7 l ≡ true → IsPlain (176 + natural l)
+level_is_plain l e =
+    let at = level_range l e in
+    level_plain 176 (natural l) at.0 at.1 (omega arith) (omega arith)
 
-level_no_clock : (l : ℤ) → natural_within 2 7 l ≡ true → is_clock (176 + natural l) ≡ false
-level_no_clock l e = let at = level_range l e in level_clock 176 (natural l) at.1 (omega arith)
+-- ---- EPC1
 
-system_reads : (i : System) → in_range (insn.System i) ≡ true → reads_clock (insn.System i) ≡ false
-    → IsNoClock (special_reads (insn.System i)).0
-unfolding special_reads
-system_reads (system.Special SpecialName.Rsr t n) ok e = e
-system_reads (system.Special SpecialName.Wsr t n) ok e = tt
-system_reads (system.Special SpecialName.Xsr t n) ok e = e
-system_reads (system.Rfi l) ok e = level_no_clock l ok
-system_reads (system.ExceptionReturn ExceptionReturnName.Rfe) ok e = refl
-system_reads (system.ExceptionReturn ExceptionReturnName.Rfde) ok e = refl
-system_reads (system.ExceptionReturn ExceptionReturnName.Rfwo) ok e = refl
-system_reads (system.ExceptionReturn ExceptionReturnName.Rfwu) ok e = refl
-system_reads _ ok e = tt
+-- of a special register that is no clock as much is known as the walk of secrets knows
+pub record IsRead (c : CoreMasks) (n : ℕ) : Type 0 where
+  pub clock : is_clock n ≡ false
+  pub kept : kept_mask c n ≡ special_mask c n
 
-pub reads_no_clock : (i : Insn) → in_range i ≡ true → reads_clock i ≡ false
-    → IsNoClock (special_reads i).0
-unfolding special_reads
-reads_no_clock (insn.Three (three.Src r f t)) ok e = refl
-reads_no_clock (insn.Three _) ok e = tt
-reads_no_clock (insn.Shift (shift.ShiftRight name r t)) ok e = refl
-reads_no_clock (insn.Shift (shift.Sll r f)) ok e = refl
-reads_no_clock (insn.Shift _) ok e = tt
-reads_no_clock (insn.Memory (memory.S32c1i t f offset)) ok e = refl
-reads_no_clock (insn.Memory _) ok e = tt
-reads_no_clock (insn.System i) ok e = system_reads i ok e
-reads_no_clock (insn.Control i) ok e = tt
-reads_no_clock (insn.Density i) ok e = tt
-reads_no_clock (insn.Boolean i) ok e = refl
+abbrev pub AreRead : CoreMasks → Option ℕ → Type 0
+AreRead c None = Unit {0}
+AreRead c (Some n) = IsRead c n
+
+module _ (c : CoreMasks) where
+  abbrev epc1_mask : ℕ
+  epc1_mask = slice_index_or c.special 177 all_bits
+
+  -- it is known where it is read
+  epc1_known : not (eqb epc1_mask all_bits) ≡ false → epc1_mask ≡ all_bits
+  epc1_known h = eqb-true epc1_mask all_bits (not-false (eqb epc1_mask all_bits) h)
+
+  -- of another register as much is known as the walk of secrets knows
+  pub kept_other : (n : ℕ) → eqb n 177 ≡ false → kept_mask c n ≡ special_mask c n
+  kept_other n e =
+      ap (λ (b : Bool). cond (b || holds_marks n) (slice_index_or c.special n all_bits) all_bits) e
+
+  kept_read : (n : ℕ) → (eqb n 177 && not (eqb epc1_mask all_bits)) ≡ false
+      → kept_mask c n ≡ special_mask c n
+  kept_read n free = by_number (eqb n 177) refl free
+    where
+      by_number : (b : Bool) → eqb n 177 ≡ b → (b && not (eqb epc1_mask all_bits)) ≡ false
+          → kept_mask c n ≡ special_mask c n
+      by_number true e h = subst (λ j. kept_mask c j ≡ special_mask c j) (sym (eqb-true n 177 e))
+          (epc1_known h)
+      by_number false e h = kept_other n e
+
+  -- ---- no row but RSR and XSR reads a clock
+
+  plain_read : (n : ℕ) → IsPlain n → IsRead c n
+  plain_read n h = record {
+    clock = h.clock;
+    kept = cond-false (may_be_lost n) _ all_bits h.lost
+        ∙ sym (cond-false (holds_marks n) _ all_bits
+        (or_parts (eqb n 177) (holds_marks n) h.lost).1);
+  }
+
+  epc1_read : not (eqb epc1_mask all_bits) ≡ false → IsRead c 177
+  epc1_read h = record { clock = refl; kept = epc1_known h }
+
+  literal_read : (n : ℕ) → is_clock n ≡ false → may_be_lost n ≡ false → IsRead c n
+  literal_read n clock lost = plain_read n (record { lost = lost; clock = clock })
+
+  system_reads : (i : System) → in_range (insn.System i) ≡ true
+      → reads_clock (insn.System i) ≡ false → misses_epc1 c (insn.System i) ≡ false
+      → AreRead c (special_reads (insn.System i)).0
+  unfolding special_reads
+  system_reads (system.Special SpecialName.Rsr t n) ok e free =
+      record { clock = e; kept = kept_read n free }
+  system_reads (system.Special SpecialName.Wsr t n) ok e free = tt
+  system_reads (system.Special SpecialName.Xsr t n) ok e free =
+      record { clock = e; kept = kept_read n free }
+  system_reads (system.Rfi l) ok e free = plain_read (176 + natural l) (level_is_plain l ok)
+  system_reads (system.ExceptionReturn ExceptionReturnName.Rfe) ok e free = epc1_read free
+  system_reads (system.ExceptionReturn ExceptionReturnName.Rfde) ok e free =
+      literal_read 192 refl refl
+  system_reads (system.ExceptionReturn ExceptionReturnName.Rfwo) ok e free = epc1_read free
+  system_reads (system.ExceptionReturn ExceptionReturnName.Rfwu) ok e free = epc1_read free
+  system_reads _ ok e free = tt
+
+  pub reads_known : (i : Insn) → in_range i ≡ true → reads_clock i ≡ false
+      → misses_epc1 c i ≡ false → AreRead c (special_reads i).0
+  unfolding special_reads
+  reads_known (insn.Three (three.Src r f t)) ok e free = literal_read 3 refl refl
+  reads_known (insn.Three _) ok e free = tt
+  reads_known (insn.Shift (shift.ShiftRight name r t)) ok e free = literal_read 3 refl refl
+  reads_known (insn.Shift (shift.Sll r f)) ok e free = literal_read 3 refl refl
+  reads_known (insn.Shift _) ok e free = tt
+  reads_known (insn.Memory (memory.S32c1i t f offset)) ok e free = literal_read 12 refl refl
+  reads_known (insn.Memory _) ok e free = tt
+  reads_known (insn.System i) ok e free = system_reads i ok e free
+  reads_known (insn.Control i) ok e free = tt
+  reads_known (insn.Density i) ok e free = tt
+  reads_known (insn.Boolean i) ok e free = literal_read 4 refl refl
 
 module _ (c : CoreMasks) (s : State) where
   abbrev k : Knowledge
@@ -120,18 +172,22 @@ module _ (c : CoreMasks) (s : State) where
   register_same None = refl
   register_same (Some i) = refl
 
-  pub special_same : (o : Option ℕ) → IsNoClock o → special_word m s o ≡ special_word k s o
+  pub special_same : (o : Option ℕ) → AreRead c o → special_word m s o ≡ special_word k s o
   special_same None h = refl
   special_same (Some n) h =
-      ap (λ (b : Bool). let f : Knowledge = record k { special = λ j. cond b 0 (k.special n) } in
-      special_word f s (Some n)) h
+      ap (λ (x : ℕ). let f : Knowledge = record k { special = λ j. x } in special_word f s (Some n))
+      (cond-false (is_clock n) 0 (kept_mask c n) h.clock ∙ h.kept)
 
   plain_whole : (o : Option ℕ) → ArePlain o → is_whole (special_word m s o) ≡ true
   plain_whole None h = refl
   plain_whole (Some n) h =
       ap (λ (x : ℕ). eqb (bit_and all_bits x) all_bits)
-      (cond-false (is_clock n) 0 (special_mask c n) h.clock
-      ∙ cond-false (holds_marks n) _ all_bits h.marks)
+      (cond-false (is_clock n) 0 (kept_mask c n) h.clock
+      ∙ cond-false (may_be_lost n) _ all_bits h.lost)
+
+  epc1_whole : not (eqb (epc1_mask c) all_bits) ≡ false
+      → both_whole (special_word m s (Some 177)) (special_word m s None) ≡ true
+  epc1_whole h = ap (λ (x : ℕ). eqb (bit_and all_bits x) all_bits && true) (epc1_known c h)
 
   both_known : (r : Option ℕ × Option ℕ) → ArePlain r.0 → ArePlain r.1
       → both_whole (special_word m s r.0) (special_word m s r.1) ≡ true
@@ -140,38 +196,39 @@ module _ (c : CoreMasks) (s : State) where
   -- ---- the special registers that an instruction uses
 
   system_known : (i : System) → in_range (insn.System i) ≡ true
+      → misses_epc1 c (insn.System i) ≡ false
       → specials_used (insn.System i) (first_special (insn.System i) m s)
       (second_special (insn.System i) m s)
       ≡ true
   unfolding special_reads specials_used
-  system_known (system.Special name t n) ok = refl
-  system_known (system.Rfi l) ok =
+  system_known (system.Special name t n) ok free = refl
+  system_known (system.Rfi l) ok free =
       let at = level_range l ok in
       let low = at.0 in
       let high = at.1 in
       both_known (Some (176 + natural l), Some (192 + natural l))
       (level_plain 176 (natural l) low high (omega arith) (omega arith))
       (level_plain 192 (natural l) low high (omega arith) (omega arith))
-  system_known (system.ExceptionReturn ExceptionReturnName.Rfe) ok = refl
-  system_known (system.ExceptionReturn ExceptionReturnName.Rfde) ok = refl
-  system_known (system.ExceptionReturn ExceptionReturnName.Rfwo) ok = refl
-  system_known (system.ExceptionReturn ExceptionReturnName.Rfwu) ok = refl
-  system_known _ ok = refl
+  system_known (system.ExceptionReturn ExceptionReturnName.Rfe) ok free = epc1_whole free
+  system_known (system.ExceptionReturn ExceptionReturnName.Rfde) ok free = refl
+  system_known (system.ExceptionReturn ExceptionReturnName.Rfwo) ok free = epc1_whole free
+  system_known (system.ExceptionReturn ExceptionReturnName.Rfwu) ok free = epc1_whole free
+  system_known _ ok free = refl
 
-  specials_known : (i : Insn) → in_range i ≡ true
+  specials_known : (i : Insn) → in_range i ≡ true → misses_epc1 c i ≡ false
       → specials_used i (first_special i m s) (second_special i m s) ≡ true
   unfolding special_reads specials_used
-  specials_known (insn.Three (three.Src r f t)) ok = refl
-  specials_known (insn.Three _) ok = refl
-  specials_known (insn.Shift (shift.ShiftRight name r t)) ok = refl
-  specials_known (insn.Shift (shift.Sll r f)) ok = refl
-  specials_known (insn.Shift _) ok = refl
-  specials_known (insn.Memory (memory.S32c1i t f offset)) ok = refl
-  specials_known (insn.Memory _) ok = refl
-  specials_known (insn.System i) ok = system_known i ok
-  specials_known (insn.Control i) ok = refl
-  specials_known (insn.Density i) ok = refl
-  specials_known (insn.Boolean i) ok = refl
+  specials_known (insn.Three (three.Src r f t)) ok free = refl
+  specials_known (insn.Three _) ok free = refl
+  specials_known (insn.Shift (shift.ShiftRight name r t)) ok free = refl
+  specials_known (insn.Shift (shift.Sll r f)) ok free = refl
+  specials_known (insn.Shift _) ok free = refl
+  specials_known (insn.Memory (memory.S32c1i t f offset)) ok free = refl
+  specials_known (insn.Memory _) ok free = refl
+  specials_known (insn.System i) ok free = system_known i ok free
+  specials_known (insn.Control i) ok free = refl
+  specials_known (insn.Density i) ok free = refl
+  specials_known (insn.Boolean i) ok free = refl
 
   common_known : common_used m s ≡ true
   common_known =
@@ -181,11 +238,12 @@ module _ (c : CoreMasks) (s : State) where
 
   -- ---- what a turn uses
 
-  insn_is : (i : Insn) → in_range i ≡ true → row_used i (first_word i k s) (second_word i k s) ≡ true
+  insn_is : (i : Insn) → in_range i ≡ true → misses_epc1 c i ≡ false
+      → row_used i (first_word i k s) (second_word i k s) ≡ true
       → insn_used i m s ≡ true
-  insn_is i ok used =
+  insn_is i ok free used =
       (λ j. row_used i (register_same (reads i).0 j) (register_same (reads i).1 j)
-      && specials_known i ok j)
+      && specials_known i ok free j)
       ∙ ap (λ (b : Bool). b && true) used
 
   return_is : (i : Insn) → (not (is_return i) || is_whole (first_word i k s)) ≡ true
@@ -196,26 +254,27 @@ module _ (c : CoreMasks) (s : State) where
   return_is _ h = h
 
   kind_is : (x : StepKind) (f : Fetched) → IsGoodSeen (seen_of f k s)
+      → reads_lost c (seen_of f k s) ≡ false
       → seen_uses x (seen_of f k s) ≡ true → kind_used x f m s ≡ true
   unfolding kind_used
-  kind_is (kind.Interrupt level) (Fetches i len) good h = refl
-  kind_is (kind.Interrupt level) (Fails address) good h = refl
-  kind_is (kind.Interrupt level) SpellsNothing good h = refl
-  kind_is kind.Wait (Fetches i len) good h = refl
-  kind_is kind.Wait (Fails address) good h = refl
-  kind_is kind.Wait SpellsNothing good h = refl
-  kind_is (kind.Window vector) (Fetches i len) good h = return_is i h
-  kind_is (kind.Window vector) (Fails address) good h = refl
-  kind_is (kind.Window vector) SpellsNothing good h = refl
-  kind_is kind.Insn (Fetches i len) good h = insn_is i good.range h
-  kind_is kind.Insn (Fails address) good h = refl
-  kind_is kind.Insn SpellsNothing good h = refl
-  kind_is (kind.Exc cause) (Fetches i len) good h = insn_is i good.range h
-  kind_is (kind.Exc cause) (Fails address) good h = refl
-  kind_is (kind.Exc cause) SpellsNothing good h = refl
-  kind_is kind.Stop (Fetches i len) good h = insn_is i good.range h
-  kind_is kind.Stop (Fails address) good h = refl
-  kind_is kind.Stop SpellsNothing good h = refl
+  kind_is (kind.Interrupt level) (Fetches i len) good free h = refl
+  kind_is (kind.Interrupt level) (Fails address) good free h = refl
+  kind_is (kind.Interrupt level) SpellsNothing good free h = refl
+  kind_is kind.Wait (Fetches i len) good free h = refl
+  kind_is kind.Wait (Fails address) good free h = refl
+  kind_is kind.Wait SpellsNothing good free h = refl
+  kind_is (kind.Window vector) (Fetches i len) good free h = return_is i h
+  kind_is (kind.Window vector) (Fails address) good free h = refl
+  kind_is (kind.Window vector) SpellsNothing good free h = refl
+  kind_is kind.Insn (Fetches i len) good free h = insn_is i good.range free h
+  kind_is kind.Insn (Fails address) good free h = refl
+  kind_is kind.Insn SpellsNothing good free h = refl
+  kind_is (kind.Exc cause) (Fetches i len) good free h = insn_is i good.range free h
+  kind_is (kind.Exc cause) (Fails address) good free h = refl
+  kind_is (kind.Exc cause) SpellsNothing good free h = refl
+  kind_is kind.Stop (Fetches i len) good free h = insn_is i good.range free h
+  kind_is kind.Stop (Fails address) good free h = refl
+  kind_is kind.Stop SpellsNothing good free h = refl
 
   written_is : (x : StepKind) (f : Fetched)
       → clock_written (executed_in x (seen_of f k s)) ≡ executes_clock (step_insn x f)
@@ -232,13 +291,14 @@ module _ (c : CoreMasks) (s : State) where
   -- a turn that the search makes uses known bits alone, or writes a clock
   pub uses_are : (code : ℕ → ℕ) (x : StepKind) (access : Option Access) (reply : ℕ)
       → IsGoodSeen (seen_of (fetch_at code s.control.pc) k s)
+      → reads_lost c (seen_of (fetch_at code s.control.pc) k s) ≡ false
       → turn_uses x access (deciding x (seen_of (fetch_at code s.control.pc) k s)) reply ≡ true
       → (found_used access reply
       && (executes_clock (step_insn x (fetch_at code s.control.pc))
       || turn_used code x access reply m s))
       ≡ true
   unfolding turn_used
-  uses_are code x access reply good h =
+  uses_are code x access reply good free h =
       subst (λ (b : Bool). (found_used access reply && (b || turn_used code x access reply m s))
       ≡ true) (written_is x (fetch_at code s.control.pc))
       (by_clock (clock_written (executed_in x (seen_of (fetch_at code s.control.pc) k s))) h)
@@ -250,4 +310,4 @@ module _ (c : CoreMasks) (s : State) where
       by_clock false used =
           let f = fetch_at code s.control.pc in
           let parts = and_parts (seen_uses x (seen_of f k s)) (found_used access reply) used in
-          λ i. parts.1 i && (common_known i && (kind_is x f good parts.0 i && parts.1 i))
+          λ i. parts.1 i && (common_known i && (kind_is x f good free parts.0 i && parts.1 i))

@@ -1,15 +1,17 @@
 -- Carries a proof; nothing that a reader must believe.
 -- What a search knows of a core and of memory, and what a turn finds.
-use Rattle.std.specs.Prelude.{◌≡◌, ℕ, ◌-◌, Bool, false, Option, Some, None}
+use Rattle.std.specs.Prelude.{◌≡◌, ℕ, ◌-◌, Bool, true, false, ◌==◌, ◌&&◌, not, Option, Some, None}
 use Rattle.std.specs.Prelude.{if◌then◌else◌, List, slice_index, slice_index_or}
 use Rattle.xt_isa.specs.declared.Insn.{Insn}
 use Rattle.xt_isa.specs.declared.Insn.TheVariants as insn
 use Rattle.xt_isa.specs.declared.system.System.TheVariants as system
 use Rattle.xt_isa.specs.declared.system.SpecialName.TheVariants as SpecialName
+use Rattle.xt_isa.specs.declared.system.ExceptionReturnName.TheVariants as ExceptionReturnName
 use Rattle.xt_map.specs.declared.contents.MemoryContents.{MemoryContents}
 use Rattle.xt_map.specs.declared.access.Access.{Access}
 use Rattle.xt_map.specs.Memory.{byte_at}
 use Rattle.xt_map.specs.Regions.{is_memory, region_of}
+use Rattle.xt_special.specs.Numbers as number
 use Rattle.xt_trace.specs.declared.record.RegWrite.{RegWrite}
 use Rattle.xt_trace.specs.declared.record.StepKind.{StepKind}
 use Rattle.xt_search.specs.Changed.{ChangesState, contents_of}
@@ -24,17 +26,19 @@ use Rattle.xt_secret_walk.specs.declared.masks.CoreMasks.{CoreMasks}
 use Rattle.xt_secret_walk.specs.declared.seen.Seen.{Seen}
 use Rattle.xt_secret_walk.specs.SeenWords.{executed_in, knowledge_of, seen_in}
 use Rattle.xt_moments.specs.Moments.{MomentCore, armed_by}
-use Rattle.xt_moments.specs.MomentLaws.{is_clock, writes_clock}
+use Rattle.xt_moments.specs.MomentLaws.{is_clock, may_be_lost, writes_clock}
 use Rattle.xt_moment_search.specs.Sides.{KnownCore}
 
 -- ---- a core
 
--- nothing is known of the clocks
-abbrev pub without_clocks : Knowledge → Knowledge
-without_clocks k = record k { special = λ n. if is_clock n then 0 else k.special n }
+-- of a special register that is no clock: EPC1, EXCSAVE1 to EXCSAVE7 and MISC0 to MISC3 have a mask
+abbrev pub kept_mask : CoreMasks → ℕ → ℕ
+kept_mask c n = if may_be_lost n then slice_index_or c.special n all_bits else all_bits
 
+-- nothing is known of the clocks
 abbrev pub moment_known_of : CoreMasks → Knowledge
-moment_known_of c = without_clocks (knowledge_of c)
+moment_known_of c =
+    record (knowledge_of c) { special = λ n. if is_clock n then 0 else kept_mask c n }
 
 abbrev pub core_of : KnownCore → MomentCore
 core_of k = record { state = k.state; armed = k.armed; stopped = k.stopped }
@@ -65,6 +69,24 @@ abbrev pub reads_clock : Insn → Bool
 reads_clock (insn.System (system.Special SpecialName.Rsr t n)) = is_clock n
 reads_clock (insn.System (system.Special SpecialName.Xsr t n)) = is_clock n
 reads_clock _ = false
+
+-- RFE, RFWO, RFWU, and RSR or XSR of EPC1
+abbrev pub reads_epc1 : Insn → Bool
+reads_epc1 (insn.System (system.Special SpecialName.Rsr t n)) = n == number.epc 1
+reads_epc1 (insn.System (system.Special SpecialName.Xsr t n)) = n == number.epc 1
+reads_epc1 (insn.System (system.ExceptionReturn ExceptionReturnName.Rfe)) = true
+reads_epc1 (insn.System (system.ExceptionReturn ExceptionReturnName.Rfwo)) = true
+reads_epc1 (insn.System (system.ExceptionReturn ExceptionReturnName.Rfwu)) = true
+reads_epc1 _ = false
+
+-- of which not each bit is known
+abbrev pub misses_epc1 : CoreMasks → Insn → Bool
+misses_epc1 c i =
+    reads_epc1 i && not (slice_index_or c.special (number.epc 1) all_bits == all_bits)
+
+abbrev pub reads_lost : CoreMasks → Option Seen → Bool
+reads_lost c None = false
+reads_lost c (Some x) = misses_epc1 c x.insn
 
 -- what it executes writes a clock
 abbrev pub clock_written : Option Seen → Bool

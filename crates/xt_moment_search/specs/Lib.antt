@@ -12,3 +12,4 @@ pub mod MomentOrders
 pub mod MomentLines
 pub mod ShownTurns
 pub mod Told
+pub mod Forgetting

@@ -6,10 +6,9 @@ use Rattle.xt_image.specs.declared.image.Image.{Image}
 use Rattle.xt_trace.specs.declared.options.Options.{Options}
 use Rattle.xt_core.specs.Runs.{entry_of, memory_of, opening_at}
 use Rattle.xt_exec.specs.TurnLaws.{IsShaped}
-use Rattle.xt_simulation.specs.Knowledge.{all_known}
-use Rattle.xt_secret_walk.specs.SeenWords.{knowledge_of}
 use Rattle.xt_moments.specs.Moments.{opening_core}
-use Rattle.xt_moment_search.specs.KnownCores.{core_of}
+use Rattle.xt_moments.specs.WorldLaws.{opening_known}
+use Rattle.xt_moment_search.specs.KnownCores.{core_of, moment_known_of}
 use Rattle.xt_moment_search.specs.declared.ground.Ground.{Ground}
 use Rattle.xt_moment_search.specs.declared.worlds.World.{World}
 
@@ -20,8 +19,8 @@ pub record IsOpen (image : Image) (o : Options) (w : World) : Type 0 where
   pub shaped1 : IsShaped w.side1.value.state
   pub core0 : core_of w.side0.value ≡ opening_core (opening_at 0 (entry_of 0 image o) o)
   pub core1 : core_of w.side1.value ≡ opening_core (opening_at 1 (entry_of 1 image o) o)
-  pub masks0 : knowledge_of w.side0.value.masks ≡ all_known
-  pub masks1 : knowledge_of w.side1.value.masks ≡ all_known
+  pub masks0 : moment_known_of w.side0.value.masks ≡ opening_known
+  pub masks1 : moment_known_of w.side1.value.masks ≡ opening_known
   pub held : w.held.value ≡ record { bytes = []; sent = [] }
   pub hidden : w.hidden.value ≡ record { bytes = []; sent = [] }
 

@@ -1,6 +1,6 @@
 -- Carries a proof; nothing that a reader must believe.
 -- The parts of a kept world, whoever shares them.
-use Rattle.std.specs.Prelude.{◌≡◌, ℕ, ◌==◌, if◌then◌else◌}
+use Rattle.std.specs.Prelude.{◌≡◌}
 use Rattle.xt_moment_search.specs.declared.bytes.Bytes.{Bytes}
 use Rattle.xt_moment_search.specs.declared.worlds.World.{World}
 use Rattle.xt_moment_search.specs.Sides.{KnownCore}
@@ -16,9 +16,3 @@ pub record HasParts (side0 side1 : KnownCore) (b : Bytes) (w : World) : Type 0 w
   pub side1_is : w.side1.value ≡ side1
   pub held : w.held.value ≡ b.held
   pub hidden : w.hidden.value ≡ b.hidden
-
--- a core of the world v and memory have become these
-abbrev pub HasMoved : ℕ → KnownCore → Bytes → World → World → Type 0
-HasMoved core side b v w =
-    HasParts (if core == 0 then side else v.side0.value) (if core == 0 then v.side1.value else side)
-    b w

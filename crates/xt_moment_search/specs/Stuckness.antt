@@ -27,6 +27,11 @@ MovesLead g moves v w =
     → Covers g.opening.contents g.cleared.contents w
     (world_past (constant_byte g.code) counts moves u)
 
+-- and each of them is one of two cores with three timers each
+pub record IsPath (g : Ground) (moves : List Move) (v w : World) : Type 0 where
+  pub are_moves : All IsMove moves
+  pub leads : MovesLead g moves v w
+
 -- from the first kept world to the one with this number
 abbrev pub OrderLeads : Ground → Graph World → List Move → ℕ → Type 0
 OrderLeads g graph moves number =

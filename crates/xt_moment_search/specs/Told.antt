@@ -3,8 +3,8 @@
 -- Note: each outcome is that of its order with moments, with some numbers for CCOUNT. If the last
 -- line is `all`, no order with moments has another outcome, whatever CCOUNT is at each turn. After
 -- `stuck none` each order can be continued until both cores have stopped, and no order that begins
--- with the order of a line `stuck` ends so.
-use Rattle.std.specs.Prelude.{◌≡◌, ◌++◌, ℕ, List, map}
+-- with the order of a line `stuck` ends so. `stuck unknown` and `all` never stand in one text.
+use Rattle.std.specs.Prelude.{◌≡◌, ◌++◌, ℕ, Bool, true, false, List, map}
 use Rattle.std.specs.List.{All}
 use Rattle.xt_image.specs.declared.image.Image.{Image}
 use Rattle.xt_trace.specs.declared.options.Options.{Options}
@@ -41,6 +41,12 @@ IsStuckOf code o stuck.Never = CanAllEnd code o
 IsStuckOf code o (stuck.Order order) = All IsMove order.items × IsStuck code o order.items
 IsStuckOf code o stuck.Unknown = Unit {0}
 
+-- it is known whether each order can be continued so
+abbrev pub is_known : Stuck → Bool
+is_known stuck.Never = true
+is_known (stuck.Order order) = true
+is_known stuck.Unknown = false
+
 -- this is the text of outcomes that are real, and the lines of the turns of the order that is shown
 pub record IsMomentsTold (image : Image) (o : Options) (addresses : List ℕ) (shown : Shown)
     (text : List ℕ) : Type 0 where
@@ -50,5 +56,6 @@ pub record IsMomentsTold (image : Image) (o : Options) (addresses : List ℕ) (s
   pub complete : answers.ended ≡ ending.All
       → HasAllOutcomes (code_of image) (opening_of image o) addresses
       (outcomes_in answers.found.items)
+  pub known : answers.ended ≡ ending.All → is_known answers.stuck ≡ true
   pub text_is : text
       ≡ moments_text addresses answers ++ order_lines image o (shown_order shown answers)

@@ -1,8 +1,6 @@
 -- Carries a proof; nothing that a reader must believe.
 -- What a step of a search does.
-use Rattle.std.specs.Prelude.{List, [], ◌∷◌}
 use Rattle.xt_moments.specs.Moments.{IsMove}
-use Rattle.xt_moments.specs.declared.moves.Move.{Move}
 use Rattle.xt_moment_search.specs.declared.machine.Step.{Step}
 use Rattle.xt_moment_search.specs.declared.machine.Step.TheVariants as step
 
@@ -12,8 +10,8 @@ MakesMove (step.Makes made) = IsMove made
 MakesMove (step.Passes passed) = Unit {0}
 MakesMove step.Rests = Unit {0}
 
--- the move that it makes, if it makes one
-abbrev pub moves_of : Step → List Move
-moves_of (step.Makes made) = made ∷ []
-moves_of (step.Passes passed) = []
-moves_of step.Rests = []
+-- it makes no move
+abbrev pub IsPassing : Step → Type 0
+IsPassing (step.Makes made) = ⊥
+IsPassing (step.Passes passed) = Unit {0}
+IsPassing step.Rests = Unit {0}

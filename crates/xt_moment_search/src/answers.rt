@@ -1,5 +1,5 @@
 //! What is found of the orders with moments of an image.
-ghost use Rattle.std.specs.Prelude.{◌≡◌, ◌+◌, ◌≤◌, ◌^◌, IfOk};
+ghost use Rattle.std.specs.Prelude.{◌≡◌, ◌+◌, ◌≤◌, ◌^◌, true, IfOk, OnOk};
 ghost use Rattle.std.specs.List.{All};
 ghost use Rattle.xt_map.specs.Placing.{IsPlaced};
 ghost use Rattle.xt_trace.specs.Validity.{IsValid};
@@ -9,7 +9,7 @@ ghost use Rattle.xt_search.specs.Graphs.{IsGraph, IsWhole};
 ghost use Rattle.xt_moments.specs.Outcomes.{HasAllOutcomes};
 ghost use Rattle.xt_moment_search.specs.Covering.{LedIn};
 ghost use Rattle.xt_moment_search.specs.Listed.{AreListed};
-ghost use Rattle.xt_moment_search.specs.Told.{AreReal, IsStuckOf, outcomes_in};
+ghost use Rattle.xt_moment_search.specs.Told.{AreReal, IsStuckOf, is_known, outcomes_in};
 ghost use Rattle.xt_moment_search.specs.declared.answers.Ending.TheVariants as endings;
 
 use crate::confirming::outcomes_of;
@@ -18,6 +18,7 @@ use crate::ground::Ground;
 use crate::keys::has_hidden_word;
 use crate::machine::{Moments, Step};
 use crate::stuck::{Stuck, stuck_of};
+use crate::trying::try_orders;
 use crate::worlds::{Shared, World};
 use std::alloc::{AllocError, Global};
 use xt_image::Image;
@@ -80,11 +81,13 @@ fn ending_of(
     graph: &Graph<World>,
     words: &[u32],
     list: &[Found],
+    stuck: &Stuck,
 ) -> Result<Ending, AllocError>
     requires words { All (λ a. a + 4 ≤ 2 ^ 32) words.now }
     requires graph { IsGraph (LedIn machine.now.ground) graph.now }
     ensures whole { IfOk result (λ e. e ≡ endings.All → IsWhole graph.now) }
     ensures listed { IfOk result (λ e. e ≡ endings.All → AreListed machine.now.ground.opening.contents machine.now.ground.cleared.contents words.now list.now graph.now.kept.items) }
+    ensures known { IfOk result (λ e. e ≡ endings.All → is_known stuck.now ≡ true) }
 {
     if let Some(barred) = graph.barred {
         if let Some((core, pc)) = barred_turn(machine, graph, barred)? {
@@ -93,6 +96,9 @@ fn ending_of(
     }
     if let Some(pc) = hidden_end(machine, graph, words) {
         return Ok(Ending::Time(0, pc));
+    }
+    if !stuck.is_known() {
+        return Ok(Ending::States);
     }
     if has_all(machine, graph) && are_told(machine, graph, words, list)? {
         Ok(Ending::All)
@@ -120,15 +126,72 @@ pub fn answers_of(
     ensures real { IfOk result (λ a. AreReal image.now options.now words.now a.found.items) }
     ensures complete { IfOk result (λ a. a.ended ≡ endings.All → HasAllOutcomes (code_of image.now) (opening_of image.now options.now) words.now (outcomes_in a.found.items)) }
     ensures stuck { IfOk result (λ a. IsStuckOf (code_of image.now) (opening_of image.now options.now) a.stuck) }
+    ensures known { IfOk result (λ a. a.ended ≡ endings.All → is_known a.stuck ≡ true) }
+{
+    let answers = answers_with(alloc, image, options, words, most, true)?;
+    if let Ending::Time(_, _) = answers.ended {
+        return answers_with(alloc, image, options, words, most, false);
+    }
+    Ok(answers)
+}
+
+// The outcomes, and those of some orders that are tried if the search did not come to its end. The only
+// error is running out of memory.
+fn with_tries(
+    machine: &Moments,
+    image: &Image,
+    options: &Options,
+    words: &[u32],
+    ended: Ending,
+    list: &mut Vec<Found>,
+) -> Result<(), AllocError>
+    requires valid { IsValid options.now }
+    requires fits { FitsImage image.now }
+    requires placed { IsPlaced image.now.segments }
+    requires words { All (λ a. a + 4 ≤ 2 ^ 32) words.now }
+    requires real { AreReal image.now options.now words.now list.old.items }
+    ensures real { OnOk result (AreReal image.now options.now words.now list.new.items) }
+    ensures kept { OnOk result (ended ≡ endings.All → list.new.items ≡ list.old.items) }
+{
+    match ended {
+        Ending::States => try_orders(machine, image, options, words, list),
+        Ending::All => Ok(()),
+        Ending::Time(_, _) => Ok(()),
+    }
+}
+
+// What a search finds that forgets what interrupts have saved, or does not. The only error is running
+// out of memory.
+fn answers_with(
+    alloc: Global,
+    image: &Image,
+    options: &Options,
+    words: &[u32],
+    most: u32,
+    forgets: bool,
+) -> Result<Answers, AllocError>
+    requires valid { IsValid options.now }
+    requires fits { FitsImage image.now }
+    requires placed { IsPlaced image.now.segments }
+    requires words { All (λ a. a + 4 ≤ 2 ^ 32) words.now }
+    ensures real { IfOk result (λ a. AreReal image.now options.now words.now a.found.items) }
+    ensures complete { IfOk result (λ a. a.ended ≡ endings.All → HasAllOutcomes (code_of image.now) (opening_of image.now options.now) words.now (outcomes_in a.found.items)) }
+    ensures stuck { IfOk result (λ a. IsStuckOf (code_of image.now) (opening_of image.now options.now) a.stuck) }
+    ensures known { IfOk result (λ a. a.ended ≡ endings.All → is_known a.stuck ≡ true) }
 {
     let ground = Ground::make(alloc, image, options)?;
-    let machine = Moments { ground, alloc };
+    let machine = Moments {
+        ground,
+        alloc,
+        forgets,
+    };
     let mut shared = Shared::new(alloc)?;
     let opening = machine.open(&mut shared, image, options)?;
     let graph = search(alloc, &machine, &mut shared, opening, most)?;
-    let found = outcomes_of(&machine, image, options, &graph, words)?;
-    let ended = ending_of(&machine, &graph, words, found.as_slice())?;
+    let mut found = outcomes_of(&machine, image, options, &graph, words)?;
     let stuck = stuck_of(&machine, &graph)?;
+    let ended = ending_of(&machine, &graph, words, found.as_slice(), &stuck)?;
+    with_tries(&machine, image, options, words, ended, &mut found)?;
     Ok(Answers {
         found,
         stuck,

@@ -1,19 +1,20 @@
 //! Outcomes, each of which is that of its order.
-ghost use Rattle.std.specs.Prelude.{◌≡◌, ◌+◌, ◌++◌, ◌≤◌, ◌<◌, ◌^◌, IfOk, OnOk, length};
+ghost use Rattle.std.specs.Prelude.{◌≡◌, ◌+◌, ◌++◌, ◌≤◌, ◌<◌, ◌^◌, IfOk, IfSome, OnOk, length, reverse};
 ghost use Rattle.std.specs.List.{All};
 ghost use Rattle.xt_map.specs.Placing.{IsPlaced};
 ghost use Rattle.xt_trace.specs.Validity.{IsValid};
 ghost use Rattle.xt_image.specs.ImageParts.{FitsImage};
 ghost use Rattle.xt_moments.specs.Moments.{IsMove};
 ghost use Rattle.xt_search.specs.Graphs.{IsGraph};
-ghost use Rattle.xt_moment_search.specs.Covering.{LedIn};
-ghost use Rattle.xt_moment_search.specs.Stuckness.{OrderLeads};
-ghost use Rattle.xt_moment_search.specs.Turns.{moves_of};
+ghost use Rattle.xt_map.specs.Memory.{constant_byte};
+ghost use Rattle.xt_moment_search.specs.Covering.{Led, LedIn};
+ghost use Rattle.xt_moment_search.specs.Stuckness.{IsPath, OrderLeads};
+ghost use Rattle.xt_moment_search.specs.Turns.{MakesMove};
 ghost use Rattle.xt_moment_search.specs.Told.{AreReal};
 
 use crate::found::{Found, is_listed};
 use crate::keys::{Key, has_hidden_word};
-use crate::machine::{Moments, Step};
+use crate::machine::{Moments, Run, Step};
 use crate::worlds::World;
 use std::alloc::AllocError;
 use xt_image::Image;
@@ -21,39 +22,77 @@ use xt_moments::{Move, outcome_after};
 use xt_search::Graph;
 use xt_trace::Options;
 
-// Appends the move that a step makes, if it makes one. The only error is running out of memory.
-fn push_made(order: &mut Vec<Move>, step: Step) -> Result<(), AllocError>
-    ensures { OnOk result (order.new.items ≡ order.old.items ++ moves_of step) }
+// The moves of a run that begins with this one in a kept world and comes to another one, last first.
+// None: it comes elsewhere. The only error is running out of memory.
+fn run_back(
+    machine: &Moments,
+    from: &World,
+    to: &World,
+    made: Move,
+) -> Result<Option<Vec<Move>>, AllocError>
+    requires { IsMove made }
+    ensures { IfOk result (λ r. IfSome r (λ moves. IsPath machine.now.ground (reverse moves.items) from.now to.now)) }
 {
-    if let Step::Makes(made) = step {
-        order.push(made)?;
+    let ran = machine.run(from, made)?;
+    let Some(run) = ran else {
+        return Ok(None);
+    };
+    if !run.at.is_at(to) {
+        return Ok(None);
     }
-    Ok(())
+    let Run { at: _, trail } = run;
+    let mut back = trail;
+    back.reverse();
+    Ok(Some(back))
 }
 
-/// The order with moments by which the world with this number was found. The only error is running out
-/// of memory.
+// The moves by which a step leads from a kept world to another one, last first. None: they lead
+// elsewhere. The only error is running out of memory.
+fn moves_back(
+    machine: &Moments,
+    from: &World,
+    to: &World,
+    step: Step,
+) -> Result<Option<Vec<Move>>, AllocError>
+    requires makes { MakesMove step }
+    requires led { Led (constant_byte machine.now.ground.code) machine.now.ground.opening.contents machine.now.ground.cleared.contents step from.now to.now }
+    ensures { IfOk result (λ r. IfSome r (λ moves. IsPath machine.now.ground (reverse moves.items) from.now to.now)) }
+{
+    match step {
+        Step::Makes(made) => run_back(machine, from, to, made),
+        Step::Passes(_) => Ok(Some(Vec::new(machine.alloc))),
+        Step::Rests => Ok(Some(Vec::new(machine.alloc))),
+    }
+}
+
+/// The order with moments by which the world with this number was found. None: the moves that the
+/// search made do not lead there. The only error is running out of memory.
 pub fn order_of(
     machine: &Moments,
     graph: &Graph<World>,
     number: usize,
-) -> Result<Vec<Move>, AllocError>
+) -> Result<Option<Vec<Move>>, AllocError>
     requires graph { IsGraph (LedIn machine.now.ground) graph.now }
     requires number { number < length graph.now.kept.items }
-    ensures moves { IfOk result (λ order. All IsMove order.items) }
-    ensures leads { IfOk result (λ order. OrderLeads machine.now.ground graph.now order.items number) }
+    ensures moves { IfOk result (λ r. IfSome r (λ order. All IsMove order.items)) }
+    ensures leads { IfOk result (λ r. IfSome r (λ order. OrderLeads machine.now.ground graph.now order.items number)) }
 {
     let mut order = Vec::new(machine.alloc);
     let mut at = number;
     while at > 0 {
         let kept = &graph.kept[at];
         let from = kept.from as usize;
-        let step = machine.step(&graph.kept[from].world, kept.core)?;
-        push_made(&mut order, step)?;
+        let before = &graph.kept[from];
+        let step = machine.step(&before.world, kept.core)?;
+        let back = moves_back(machine, &before.world, &kept.world, step)?;
+        let Some(moves) = back else {
+            return Ok(None);
+        };
+        order.extend_from_slice(moves.as_slice())?;
         at = from;
     }
     order.reverse();
-    Ok(order)
+    Ok(Some(order))
 }
 
 // How many outcomes of a list come before this one.
@@ -76,6 +115,37 @@ fn is_hit(list: &[Found], place: usize, key: &Key) -> bool {
         Some(found) => Key::of(&found.outcome).compare(key).is_eq(),
         None => false,
     }
+}
+
+/// Makes an order and lists what comes out of it, at its place: not if one of the cores has not stopped
+/// then, or the outcome is listed already. The only error is running out of memory.
+pub fn list_order(
+    machine: &Moments,
+    image: &Image,
+    options: &Options,
+    words: &[u32],
+    order: Vec<Move>,
+    list: &mut Vec<Found>,
+) -> Result<(), AllocError>
+    requires valid { IsValid options.now }
+    requires fits { FitsImage image.now }
+    requires placed { IsPlaced image.now.segments }
+    requires words { All (λ a. a + 4 ≤ 2 ^ 32) words.now }
+    requires moves { All IsMove order.items }
+    requires real { AreReal image.now options.now words.now list.old.items }
+    ensures { OnOk result (AreReal image.now options.now words.now list.new.items) }
+{
+    let made = outcome_after(machine.alloc, image, options, order.as_slice(), words)?;
+    let Some(outcome) = made else {
+        return Ok(());
+    };
+    let key = Key::of(&outcome);
+    let place = place_of(list.as_slice(), &key);
+    if is_hit(list.as_slice(), place, &key) {
+        return Ok(());
+    }
+    list.insert(place, Found { outcome, order })?;
+    Ok(())
 }
 
 // Makes the order that leads to the world with this number, and lists what comes out of it, at its
@@ -106,18 +176,11 @@ fn add(
     if is_listed(machine, world, words, list.as_slice())? {
         return Ok(());
     }
-    let order = order_of(machine, graph, number)?;
-    let made = outcome_after(machine.alloc, image, options, order.as_slice(), words)?;
-    let Some(outcome) = made else {
+    let found = order_of(machine, graph, number)?;
+    let Some(order) = found else {
         return Ok(());
     };
-    let key = Key::of(&outcome);
-    let place = place_of(list.as_slice(), &key);
-    if is_hit(list.as_slice(), place, &key) {
-        return Ok(());
-    }
-    list.insert(place, Found { outcome, order })?;
-    Ok(())
+    list_order(machine, image, options, words, order, list)
 }
 
 /// What comes out of the orders that were found, for the words at these addresses. The only error is running out of memory.

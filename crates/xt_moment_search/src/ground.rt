@@ -18,7 +18,10 @@ ghost use Rattle.xt_moment_search.specs.KnownCores.{IsCut, moment_known_of};
 ghost use Rattle.xt_moment_search.specs.Turned.{IsTurned};
 
 use crate::bytes::{Bytes, reply_mask, serve};
-use crate::knowing::{armed_in, executed_by, is_known, learned, place, seen_at, stored_in};
+use crate::forgetting::Saved;
+use crate::knowing::{
+    armed_in, enter, executed_by, is_known, learned, place, reads_lost, seen_at, stored_in,
+};
 use crate::sides::{Side, with_register};
 use std::alloc::{AllocError, Global};
 use xt_bus::Memory;
@@ -143,7 +146,7 @@ fn begun_turn(
 }
 
 impl<'a> Ground<'a> {
-    ghost use Rattle.std.specs.Prelude.{[]};
+    ghost use Rattle.std.specs.Prelude.{[], None};
     ghost use Rattle.xt_core.specs.Runs.{memory_of};
     ghost use Rattle.xt_map.specs.Memory.{opening_memory};
     ghost use Rattle.xt_map.specs.Placing.{IsPlaced};
@@ -188,16 +191,26 @@ impl<'a> Ground<'a> {
 
     /// A core after its next turn. None: it has stopped, or the turn uses what is not known. The only error is running
     /// out of memory.
-    pub fn turned(&self, side: &Side, bytes: &mut Bytes) -> Result<Option<Side>, AllocError>
-        ensures { IfOk result (λ r. IfSome r (λ s. IsTurned (constant_byte self.now.code) self.now.opening.contents self.now.cleared.contents side.now s bytes.old bytes.new)) }
+    pub fn turned(
+        &self,
+        side: &Side,
+        bytes: &mut Bytes,
+        saved: &mut Saved,
+    ) -> Result<Option<Side>, AllocError>
+        ensures none { IfOk result (λ r. r ≡ None → bytes.new ≡ bytes.old) }
+        ensures turned { IfOk result (λ r. IfSome r (λ s. IsTurned (constant_byte self.now.code) self.now.opening.contents self.now.cleared.contents side.now s bytes.old bytes.new)) }
     {
         if side.stopped {
             return Ok(None);
         }
         let begun = with_register(side.regs, number::CCOUNT, 0);
         let found = seen_at(&begun, &side.masks, &self.code);
+        if reads_lost(&side.masks, &found) {
+            return Ok(None);
+        }
         let mut regs = begun;
         let record = self.make_turn(&mut regs, &bytes.held);
+        saved.note(&record)?;
         let reply = reply_mask(&bytes.hidden, &self.cleared, record.access);
         let executed = executed_by(record.kind, found);
         if !is_known(&record, &found, &executed, reply) {
@@ -210,7 +223,8 @@ impl<'a> Ground<'a> {
             record.access,
             stored_in(&executed),
         )?;
-        let masks = learned(&side.masks, &executed, record.write, regs.win.base(), reply);
+        let mut masks = learned(&side.masks, &executed, record.write, regs.win.base(), reply);
+        enter(&mut masks, record.kind, begun.sr.ps_fields());
         let before = begun.sr.register(number::INTERRUPT);
         let stopped = stops(record.kind);
         Ok(Some(past(side, before, armed_in(&executed), regs, masks, stopped)))

@@ -1,24 +1,26 @@
 //! What a turn finds, and what is known after it.
-ghost use Rattle.std.specs.Prelude.{◌≡◌, ◌<◌};
+ghost use Rattle.std.specs.Prelude.{◌≡◌, ◌<◌, false, slice_index_or};
 ghost use Rattle.xt_isa.specs.declared.Insn.{Insn};
 ghost use Rattle.xt_map.specs.Memory.{constant_byte};
 ghost use Rattle.xt_window.specs.Ring.{place};
 ghost use Rattle.xt_map.specs.Fetching.{fetch_at};
 ghost use Rattle.xt_exec.specs.State.{State};
 ghost use Rattle.xt_exec.specs.States.{file_state};
+ghost use Rattle.xt_uses.specs.Words.{all_bits};
 ghost use Rattle.xt_secret_walk.specs.SeenWords.{IsGoodSeen, executed_in, knowledge_of, seen_of, stored_of, turn_uses};
-ghost use Rattle.xt_moments.specs.MomentLaws.{IsMomentKnown, is_clock, moment_known, writes_clock};
-ghost use Rattle.xt_moment_search.specs.KnownCores.{IsSeen, deciding, insn_of, moment_known_of, reads_clock, seen_arms, with_hidden};
+ghost use Rattle.xt_moments.specs.MomentLaws.{IsMomentKnown, entered_known, enters, is_clock, moment_known, writes_clock};
+ghost use Rattle.xt_moment_search.specs.KnownCores.{IsSeen, deciding, insn_of, moment_known_of, reads_clock, reads_epc1, reads_lost};
+ghost use Rattle.xt_moment_search.specs.KnownCores.{seen_arms, with_hidden};
 
-use crate::sides::copy_of;
+use crate::sides::{copy_of, set_mask};
 use xt_codec::{Fetch, instruction_at};
 use xt_exec::Regs;
 use xt_isa::Insn;
-use xt_isa::system::{SpecialName, System};
+use xt_isa::system::{ExceptionReturnName, SpecialName, System};
 use xt_map::Constants;
 use xt_moments::armed_by;
 use xt_secret_walk::{CoreMasks, Seen, WatchedFile, turn_uses};
-use xt_special::number;
+use xt_special::{Ps, number};
 use xt_trace::{RegWrite, StepKind, StepRecord};
 use xt_uses::ALL_BITS;
 
@@ -52,6 +54,37 @@ fn writes_clock(insn: Insn) -> bool
         Insn::System(System::Special(SpecialName::Wsr, _, n)) => is_clock(n),
         Insn::System(System::Special(SpecialName::Xsr, _, n)) => is_clock(n),
         _ => false,
+    }
+}
+
+// Whether an instruction reads EPC1.
+fn reads_epc1(insn: Insn) -> bool
+    ensures { result ≡ reads_epc1 insn }
+{
+    match insn {
+        Insn::System(System::Special(SpecialName::Rsr, _, n)) => n == number::EPC1,
+        Insn::System(System::Special(SpecialName::Xsr, _, n)) => n == number::EPC1,
+        Insn::System(System::ExceptionReturn(ExceptionReturnName::Rfe)) => true,
+        Insn::System(System::ExceptionReturn(ExceptionReturnName::Rfwo)) => true,
+        Insn::System(System::ExceptionReturn(ExceptionReturnName::Rfwu)) => true,
+        _ => false,
+    }
+}
+
+// What is known of EPC1.
+fn epc1_mask(masks: &CoreMasks) -> u32
+    ensures { result ≡ slice_index_or masks.now.special 177 all_bits }
+{
+    masks.special[number::EPC1 as usize]
+}
+
+/// Whether a turn that finds this reads EPC1, of which a bit is not known.
+pub fn reads_lost(masks: &CoreMasks, seen: &Option<Seen>) -> bool
+    ensures { result ≡ reads_lost masks.now seen.now }
+{
+    match seen {
+        Some(found) => reads_epc1(found.insn) && epc1_mask(masks) != ALL_BITS,
+        None => false,
     }
 }
 
@@ -127,13 +160,35 @@ pub fn is_known(made: &StepRecord, seen: &Option<Seen>, executed: &Option<Seen>,
 
 // The same masks, but nothing is known of the register that is written.
 fn hidden_in(masks: &CoreMasks, write: Option<RegWrite>, base: u8) -> CoreMasks
-    ensures { knowledge_of result ≡ with_hidden write base (knowledge_of masks.now) }
+    ensures known { knowledge_of result ≡ with_hidden write base (knowledge_of masks.now) }
+    ensures special { result.special ≡ masks.now.special }
 {
     let mut masks = copy_of(masks);
     if let Some(written) = write {
         masks.regs[place(base, written.reg)] = 0;
     }
     masks
+}
+
+// Whether a turn of this kind puts the program counter into EPC1, if it begins with this PS.
+fn enters(kind: StepKind, ps: Ps) -> bool
+    ensures { result ≡ enters kind ps }
+{
+    match kind {
+        StepKind::Window(_) => true,
+        StepKind::Exc(_) => !ps.excm,
+        StepKind::Interrupt(level) => level == 1 && !ps.excm,
+        StepKind::Insn | StepKind::Wait | StepKind::Stop => false,
+    }
+}
+
+/// Each bit of EPC1 is known after a turn that puts the program counter there.
+pub fn enter(masks: &mut CoreMasks, kind: StepKind, ps: Ps)
+    ensures { moment_known_of masks.new ≡ entered_known (enters kind ps) (moment_known_of masks.old) }
+{
+    if enters(kind, ps) {
+        set_mask(masks, number::EPC1, ALL_BITS);
+    }
 }
 
 /// What is known of a core after a turn that executes this, makes this write and ends in the window `base`.
@@ -145,7 +200,8 @@ pub fn learned(
     reply: u32,
 ) -> CoreMasks
     requires { IsGoodSeen executed.now }
-    ensures { (s : State) → IsSeen masks.now s executed.now → IsMomentKnown (moment_known_of masks.now)
+    ensures { (s : State) → IsSeen masks.now s executed.now → reads_lost masks.now executed.now ≡ false
+        → IsMomentKnown (moment_known_of masks.now)
         → moment_known_of result ≡ moment_known (insn_of executed.now) write base reply (moment_known_of masks.now) s }
 {
     match executed {
@@ -153,9 +209,10 @@ pub fn learned(
             if reads_clock(seen.insn) {
                 return hidden_in(masks, write, base);
             }
-            let mut masks = copy_of(masks);
-            let _hides = masks.pass(seen, write, base, reply);
-            masks
+            let mut passed = copy_of(masks);
+            let _hides = passed.pass(seen, write, base, reply);
+            set_mask(&mut passed, number::EPC1, epc1_mask(masks));
+            passed
         }
         None => copy_of(masks),
     }

@@ -1,17 +1,22 @@
 //! The machine of an image whose timers fire at any moment.
-ghost use Rattle.std.specs.Prelude.{◌≡◌, ◌<◌, ◌+◌, ◌^◌, IfOk, IfSome};
+ghost use Rattle.std.specs.Prelude.{◌≡◌, ◌<◌, ◌+◌, ◌^◌, None, IfOk, IfSome, OnOk};
 ghost use Rattle.std.specs.List.{All};
 ghost use Rattle.xt_map.specs.Memory.{constant_byte};
 ghost use Rattle.xt_moments.specs.Moments.{IsMove};
-ghost use Rattle.xt_moment_search.specs.Covering.{Leads, Led, LedIn, chosen, step_of};
+ghost use Rattle.xt_moment_search.specs.Covering.{Becomes, Forgets, HasRun, Leads, Led, LedIn, TurnsTo};
+ghost use Rattle.xt_moment_search.specs.Covering.{chosen, snapshot_of, step_of};
 ghost use Rattle.xt_moment_search.specs.Opened.{IsOpen};
 ghost use Rattle.xt_moment_search.specs.Turns.{MakesMove};
-ghost use Rattle.xt_moments.specs.declared.moves.Move.TheVariants as moves;
+ghost use Rattle.xt_moments.specs.declared.moves.Move.{Move};
+ghost use Rattle.xt_moment_search.specs.declared.snapshots.Snapshot.{Snapshot};
 
 use crate::bytes::Bytes;
 use crate::choices::choices;
+use crate::forcing::forced;
+use crate::forgetting::{Leaving, Saved, forget, left_by_next};
 use crate::ground::Ground;
 use crate::sides::Side;
+use crate::snapshots::Snapshot;
 use crate::worlds::{Shared, World};
 use std::alloc::{AllocError, Global};
 use xt_image::Image;
@@ -24,6 +29,26 @@ use xt_trace::Options;
 pub struct Moments<'a> {
     pub ground: Ground<'a>,
     pub alloc: Global,
+    /// Whether it forgets what an interrupt has saved.
+    pub forgets: bool,
+}
+
+/// A world on its way, and the moves that led there.
+#[derive(Drop)]
+pub struct Run {
+    pub at: Snapshot,
+    pub trail: Vec<Move>,
+}
+
+// How many turns are made at once at most.
+const MOST_TURNS: u32 = 2000;
+
+// Whether a world is kept after a turn of this core that began at `from` and left this.
+fn is_cut(side: &Side, from: u32, leaves: Leaving) -> bool {
+    if side.is_interrupted() {
+        return false;
+    }
+    !matches!(leaves, Leaving::Nothing) || side.pc() < from
 }
 
 /// What a step of a search does.
@@ -62,47 +87,120 @@ impl<'a> Moments<'a> {
         Ok(world)
     }
 
-    // The world after a turn of a core. None: it uses what is not known. The only error is running
-    // out of memory.
-    fn turned_world(
+    // Forgets what no turn may use once an interrupt is over. The only error is running out of memory.
+    fn forget_after(
         &self,
-        shared: &mut Shared,
-        world: &World,
+        leaves: Leaving,
         core: u8,
-    ) -> Result<Option<World>, AllocError>
+        at: &mut Snapshot,
+        saved: &mut Saved,
+    ) -> Result<(), AllocError>
         requires { core < 2 }
-        ensures passed { IfOk result (λ r. IfSome r (λ w. w.passed ≡ 0)) }
-        ensures leads { IfOk result (λ r. IfSome r (λ w. Leads (constant_byte self.now.ground.code) self.now.ground.opening.contents self.now.ground.cleared.contents (moves.Turn core) world.now w)) }
+        ensures { OnOk result (Forgets self.now.ground.opening.contents self.now.ground.cleared.contents at.old at.new) }
     {
-        let mut bytes = world.bytes(self.alloc)?;
-        let made = self.ground.turned(world.side(core), &mut bytes)?;
-        let Some(side) = made else {
+        if !self.forgets || leaves != Leaving::Interrupt || at.side(core).is_interrupted() {
+            return Ok(());
+        }
+        forget(&self.ground, core, at, saved)
+    }
+
+    // Makes the turn of a core, and forgets what no turn after it may use. None: it uses what is not
+    // known, and nothing has changed. The only error is running out of memory.
+    fn turn(
+        &self,
+        at: &mut Snapshot,
+        core: u8,
+        saved: &mut Saved,
+    ) -> Result<Option<Leaving>, AllocError>
+        requires { core < 2 }
+        ensures none { IfOk result (λ r. r ≡ None → at.new ≡ at.old) }
+        ensures turns { IfOk result (λ r. IfSome r (λ _. TurnsTo (constant_byte self.now.ground.code) self.now.ground.opening.contents self.now.ground.cleared.contents core at.old at.new)) }
+    {
+        let leaves = left_by_next(&self.ground, at.side(core));
+        let side = at.side(core).copy();
+        let made = self.ground.turned(&side, &mut at.bytes, saved)?;
+        let Some(next) = made else {
             return Ok(None);
         };
-        let next = shared.moved(self.alloc, world, core, side, bytes)?;
-        Ok(Some(next))
+        at.put(core, next);
+        self.forget_after(leaves, core, at, saved)?;
+        Ok(Some(leaves))
     }
 
-    // The world after a timer of a core has fired. The only error is running out of memory.
-    fn fired_world(
+    // A copy of a kept world after a move. None: a turn uses what is not known. The only error is
+    // running out of memory.
+    fn begin(
         &self,
-        shared: &mut Shared,
         world: &World,
-        core: u8,
-        timer: u8,
-    ) -> Result<World, AllocError>
-        requires core { core < 2 }
-        requires timer { timer < 3 }
-        ensures passed { IfOk result (λ w. w.passed ≡ 0) }
-        ensures leads { IfOk result (λ w. Leads (constant_byte self.now.ground.code) self.now.ground.opening.contents self.now.ground.cleared.contents (moves.Fires core timer) world.now w) }
+        made: Move,
+        saved: &mut Saved,
+    ) -> Result<Option<Snapshot>, AllocError>
+        requires { IsMove made }
+        ensures { IfOk result (λ r. IfSome r (Becomes (constant_byte self.now.ground.code) self.now.ground.opening.contents self.now.ground.cleared.contents made (snapshot_of world.now))) }
     {
-        let bytes = world.bytes(self.alloc)?;
-        let side = world.side(core).fired(timer);
-        let next = shared.moved(self.alloc, world, core, side, bytes)?;
-        Ok(next)
+        let mut at = Snapshot::of(self.alloc, world)?;
+        match made {
+            Move::Turn(core) => {
+                let turned = self.turn(&mut at, core, saved)?;
+                let Some(_leaves) = turned else {
+                    return Ok(None);
+                };
+                Ok(Some(at))
+            }
+            Move::Fires(core, timer) => {
+                let next = at.side(core).fired(timer);
+                at.put(core, next);
+                Ok(Some(at))
+            }
+        }
     }
 
-    /// The world after a move. None: the turn uses what is not known. The only error is running out of memory.
+    // Makes a turn that may come before all other moves. Whether another one is to be made. The only
+    // error is running out of memory.
+    fn go_on(&self, run: &mut Run, saved: &mut Saved) -> Result<bool, AllocError>
+        ensures { IfOk result (λ _. (made : Move) (v : Snapshot)
+            → HasRun (constant_byte self.now.ground.code) self.now.ground.opening.contents self.now.ground.cleared.contents made v run.old
+            → HasRun (constant_byte self.now.ground.code) self.now.ground.opening.contents self.now.ground.cleared.contents made v run.new) }
+    {
+        let Some(core) = forced(&self.ground, &run.at) else {
+            return Ok(false);
+        };
+        let from = run.at.side(core).pc();
+        let turned = self.turn(&mut run.at, core, saved)?;
+        let Some(leaves) = turned else {
+            return Ok(false);
+        };
+        run.trail.push(Move::Turn(core))?;
+        Ok(!is_cut(run.at.side(core), from, leaves))
+    }
+
+    /// A copy of a kept world after a move, and after turns that may come before other moves. None: the
+    /// turn uses what is not known. The only error is running out of memory.
+    pub fn run(&self, world: &World, made: Move) -> Result<Option<Run>, AllocError>
+        requires { IsMove made }
+        ensures { IfOk result (λ r. IfSome r (HasRun (constant_byte self.now.ground.code) self.now.ground.opening.contents self.now.ground.cleared.contents made (snapshot_of world.now))) }
+    {
+        let mut saved = Saved::new(self.alloc);
+        let begun = self.begin(world, made, &mut saved)?;
+        let Some(at) = begun else {
+            return Ok(None);
+        };
+        let mut run = Run {
+            at,
+            trail: Vec::new(self.alloc),
+        };
+        run.trail.push(made)?;
+        for _ in 0..MOST_TURNS {
+            let more = self.go_on(&mut run, &mut saved)?;
+            if !more {
+                return Ok(Some(run));
+            }
+        }
+        Ok(Some(run))
+    }
+
+    /// The world after a move, and after turns that may come before other moves. None: the turn uses
+    /// what is not known. The only error is running out of memory.
     pub fn made(
         &self,
         shared: &mut Shared,
@@ -113,13 +211,18 @@ impl<'a> Moments<'a> {
         ensures passed { IfOk result (λ r. IfSome r (λ w. w.passed ≡ 0)) }
         ensures leads { IfOk result (λ r. IfSome r (λ w. Leads (constant_byte self.now.ground.code) self.now.ground.opening.contents self.now.ground.cleared.contents made world.now w)) }
     {
-        match made {
-            Move::Turn(core) => self.turned_world(shared, world, core),
-            Move::Fires(core, timer) => {
-                let next = self.fired_world(shared, world, core, timer)?;
-                Ok(Some(next))
-            }
-        }
+        let ran = self.run(world, made)?;
+        let Some(run) = ran else {
+            return Ok(None);
+        };
+        let Run { at, trail: _ } = run;
+        let Snapshot {
+            side0,
+            side1,
+            bytes,
+        } = at;
+        let next = shared.world(self.alloc, side0, side1, bytes)?;
+        Ok(Some(next))
     }
 
     // What a step of a search does in a world. The only error is running out of memory.

@@ -1,12 +1,11 @@
 //! A core between two turns, and what is known of it.
-ghost use Rattle.std.specs.Prelude.{◌≡◌, ◌≢◌, ◌<◌, true, false, length, if◌then◌else◌};
+ghost use Rattle.std.specs.Prelude.{◌≡◌, ◌≢◌, ◌<◌, true, false, length, slice_set, if◌then◌else◌};
 ghost use Rattle.xt_exec.specs.States.{file_state};
 ghost use Rattle.xt_exec.specs.TurnLaws.{IsShaped};
 ghost use Rattle.xt_core.specs.Runs.{opening_at};
-ghost use Rattle.xt_simulation.specs.Knowledge.{all_known};
-ghost use Rattle.xt_secret_walk.specs.SeenWords.{knowledge_of};
 ghost use Rattle.xt_moments.specs.Moments.{core_fired, is_armed, opening_core, with_special};
-ghost use Rattle.xt_moment_search.specs.KnownCores.{core_of};
+ghost use Rattle.xt_moments.specs.WorldLaws.{opening_known};
+ghost use Rattle.xt_moment_search.specs.KnownCores.{core_of, moment_known_of};
 
 use std::marker::Model;
 use xt_exec::Regs;
@@ -15,6 +14,7 @@ use xt_outcomes::Part;
 use xt_secret_walk::{CoreMasks, WatchedFile};
 use xt_special::{Ps, Special, number};
 use xt_trace::Options;
+use xt_uses::ALL_BITS;
 use xt_window::Windows;
 
 /// A core between two turns: its registers, in which each bit that is not known is 0, which bits are known, the bits of
@@ -48,6 +48,25 @@ pub(crate) fn copy_of(masks: &CoreMasks) -> CoreMasks
         special: masks.special,
         threadptr: masks.threadptr,
     }
+}
+
+/// A special register gets this mask.
+pub(crate) fn set_mask(masks: &mut CoreMasks, n: u8, mask: u32)
+    ensures regs { masks.new.regs ≡ masks.old.regs }
+    ensures special { masks.new.special ≡ slice_set masks.old.special n mask }
+    ensures threadptr { masks.new.threadptr ≡ masks.old.threadptr }
+    ensures long { n < length masks.old.special }
+{
+    masks.special[n as usize] = mask;
+}
+
+// The masks of a core as it opens: all is known but CCOUNT and CCOMPARE.
+fn opening_masks() -> CoreMasks
+    ensures { moment_known_of result ≡ opening_known }
+{
+    let mut masks = CoreMasks::whole();
+    set_mask(&mut masks, number::EPC1, ALL_BITS);
+    masks
 }
 
 /// The registers with this value in a special register.
@@ -133,7 +152,7 @@ impl Side {
         requires core { core < 2 }
         requires valid { IsValid options.now }
         ensures core { core_of result ≡ opening_core (opening_at core pc options.now) }
-        ensures masks { knowledge_of result.masks ≡ all_known }
+        ensures masks { moment_known_of result.masks ≡ opening_known }
         ensures shaped { IsShaped result.state }
     {
         let stack = if core == 0 {
@@ -143,7 +162,7 @@ impl Side {
         };
         Side {
             regs: Regs::open(core, pc, options.vecbase, stack.hi, WatchedFile::new()),
-            masks: CoreMasks::whole(),
+            masks: opening_masks(),
             armed: 0,
             stopped: false,
         }
@@ -176,6 +195,12 @@ impl Side {
         self.regs.pc
     }
 
+    /// Whether interrupts of level 1 are off: an interrupt or an exception is at work.
+    pub fn is_interrupted(&self) -> bool {
+        let ps = self.regs.sr.ps_fields();
+        ps.intlevel > 0 || ps.excm
+    }
+
     /// Whether a timer is armed.
     ///
     /// Condition: `timer` is 0, 1 or 2.
@@ -186,8 +211,8 @@ impl Side {
         self.armed & timer_bit(timer) != 0
     }
 
-    // The same core.
-    fn copy(&self) -> Side
+    /// The same core.
+    pub fn copy(&self) -> Side
         ensures { result ≡ self.now }
     {
         Side {

@@ -4,6 +4,7 @@ ghost use Rattle.xt_search.specs.Ends.{IsSettled};
 ghost use Rattle.xt_search.specs.Graphs.{IsAt, IsGraph, IsWhole};
 ghost use Rattle.xt_moment_search.specs.Covering.{LedIn};
 ghost use Rattle.xt_moment_search.specs.Stuckness.{IsStuckAnswer, IsUnmarked, has_ended};
+ghost use Rattle.xt_moment_search.specs.Told.{is_known};
 ghost use Rattle.xt_moment_search.specs.declared.worlds.World.{World};
 
 use crate::confirming::order_of;
@@ -22,6 +23,19 @@ pub enum Stuck {
     Order(Vec<Move>),
     /// Nothing.
     Unknown,
+}
+
+impl Stuck {
+    /// Whether it is known if there is one.
+    pub fn is_known(&self) -> bool
+        ensures { result ≡ is_known self.now }
+    {
+        match self {
+            Stuck::Never => true,
+            Stuck::Order(_) => true,
+            Stuck::Unknown => false,
+        }
+    }
 }
 
 // Whether this world is marked, or is no end and leads to no marked one.
@@ -93,7 +107,10 @@ fn stuck_in(machine: &Moments, graph: &Graph<World>) -> Result<Stuck, AllocError
     let Some(number) = first_unmarked(graph, marks.as_slice()) else {
         return Ok(Stuck::Never);
     };
-    let order = order_of(machine, graph, number)?;
+    let found = order_of(machine, graph, number)?;
+    let Some(order) = found else {
+        return Ok(Stuck::Unknown);
+    };
     Ok(Stuck::Order(order))
 }
 

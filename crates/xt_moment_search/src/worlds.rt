@@ -1,6 +1,6 @@
 //! What stands for a world in a search.
 ghost use Rattle.std.specs.Prelude.{◌≡◌, ◌&&◌, ◌==◌, true, IfOk, if◌then◌else◌};
-ghost use Rattle.xt_moment_search.specs.Parts.{HaveSameParts, HasMoved, HasParts};
+ghost use Rattle.xt_moment_search.specs.Parts.{HaveSameParts, HasParts};
 
 use crate::bytes::Bytes;
 use crate::sides::Side;
@@ -121,33 +121,6 @@ impl Shared {
         Ok(World {
             side0: self.sides.shared(alloc, side0)?,
             side1: self.sides.shared(alloc, side1)?,
-            held: self.held.shared(alloc, bytes.held)?,
-            hidden: self.hidden.shared(alloc, bytes.hidden)?,
-            passed: 0,
-        })
-    }
-
-    /// The world in which a core and memory have become these. The only error is running out of memory.
-    pub fn moved(
-        &mut self,
-        alloc: Global,
-        world: &World,
-        core: u8,
-        side: Side,
-        bytes: Bytes,
-    ) -> Result<World, AllocError>
-        ensures passed { IfOk result (λ w. w.passed ≡ 0) }
-        ensures parts { IfOk result (λ w. HasMoved core side bytes world.now w) }
-    {
-        let moved = self.sides.shared(alloc, side)?;
-        let (side0, side1) = if core == 0 {
-            (moved, world.side1.clone()?)
-        } else {
-            (world.side0.clone()?, moved)
-        };
-        Ok(World {
-            side0,
-            side1,
             held: self.held.shared(alloc, bytes.held)?,
             hidden: self.hidden.shared(alloc, bytes.hidden)?,
             passed: 0,

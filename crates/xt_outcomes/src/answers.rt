@@ -12,6 +12,7 @@ ghost use Rattle.xt_outcomes.specs.Outcomes.{CanAllEnd, IsStuck};
 ghost use Rattle.xt_outcomes.specs.declared.answers.Ending.TheVariants.{All};
 ghost use Rattle.xt_outcomes.specs.Searched.{HasEnded, IsComplete, IsSearch};
 
+use crate::dead::Dead;
 use crate::found::Search;
 use crate::listing::{Found, outcomes_of};
 use crate::meeting::search_orders;
@@ -42,6 +43,9 @@ pub struct Answers {
     pub stuck: Option<Vec<u8>>,
     /// A race, if one was found.
     pub race: Option<NextRace>,
+    /// The registers that were dead in the search. Another search may take them for dead too, as long as it
+    /// checks each turn.
+    pub dead: Dead,
 }
 
 // A `drop` of its own is one call at each place where a value is dropped.
@@ -52,6 +56,7 @@ impl Drop for Answers {
             ended: _,
             stuck: _,
             race: _,
+            dead: _,
         } = self;
     }
 }
@@ -103,11 +108,13 @@ fn answers_by(
     let found = outcomes_of(alloc, image, options, search, words)?;
     let stuck = stuck_where(alloc, image, options, search, ended)?;
     let race = race_of(alloc, image, options, search)?;
+    let dead = search.machine.dead.copy(alloc)?;
     Ok(Answers {
         found,
         ended,
         stuck,
         race,
+        dead,
     })
 }
 

@@ -5,7 +5,7 @@ ghost use Rattle.xt_map.specs.Fetching.{fetch_at};
 ghost use Rattle.xt_window.specs.Ring.{bit};
 ghost use Rattle.xt_outcomes.specs.Dead.{are_fit, cleared, dead_at, is_live, is_written, reads_of, stay_dead};
 
-use std::alloc::Global;
+use std::alloc::{AllocError, Global};
 use xt_codec::{Fetch, instruction_at};
 use xt_map::Constants;
 use xt_rows::reads;
@@ -21,11 +21,11 @@ pub(crate) type Registers = (Option<u8>, Option<u8>);
 /// dead.
 #[derive(Drop)]
 pub struct Dead {
-    pub(crate) masks: Vec<u16>,
+    pub masks: Vec<u16>,
 }
 
 impl Dead {
-    ghost use Rattle.std.specs.Prelude.{[]};
+    ghost use Rattle.std.specs.Prelude.{[], IfOk};
 
     /// No register is dead.
     pub fn none(alloc: Global) -> Dead
@@ -36,8 +36,17 @@ impl Dead {
         }
     }
 
+    /// The same masks once more. The only error is running out of memory.
+    pub fn copy(&self, alloc: Global) -> Result<Dead, AllocError>
+        ensures { IfOk result (λ d. d.masks.items ≡ self.now.masks.items) }
+    {
+        let mut masks = Vec::new(alloc);
+        masks.extend_from_slice(self.masks.as_slice())?;
+        Ok(Dead { masks })
+    }
+
     /// The registers that are dead at a program counter.
-    pub(crate) fn at(&self, pc: u32) -> u16
+    pub fn at(&self, pc: u32) -> u16
         ensures { result ≡ dead_at self.now.masks.items pc }
     {
         match self.masks.get((pc % 131072) as usize) {

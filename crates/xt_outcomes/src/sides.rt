@@ -1,12 +1,11 @@
 //! A core between two turns.
 ghost use Rattle.std.specs.Prelude.{◌≡◌, ◌<◌, true, false, length};
-ghost use Rattle.xt_window.specs.Ring.{visible};
-ghost use Rattle.xt_outcomes.specs.SideMarks.{mixed, side_mark};
+ghost use Rattle.xt_outcomes.specs.SideMarks.{mixed, ring_of, side_mark};
 
 use crate::turns::leave_time;
 use std::marker::Model;
 use xt_exec::Regs;
-use xt_special::{Ps, Special};
+use xt_special::{Ps, Special, number};
 use xt_trace::{Options, Stop};
 use xt_window::{WindowFile, Windows};
 
@@ -88,15 +87,17 @@ fn is_same_file(a: &WindowFile, b: &WindowFile) -> bool
     a.base() == b.base() && a.start() == b.start()
 }
 
-// A number, and the 16 registers in sight one after another.
+// A number, and all registers one after another.
 fn mixed(digest: u64, windows: &WindowFile) -> u64
-    ensures { result ≡ mixed (visible windows.now.regs windows.now.base) digest 16 }
+    ensures { result ≡ mixed (ring_of windows.now.regs) digest 64 }
 {
+    let mut ring = *windows;
     let mut digest = digest;
-    for i in 0..16u8 {
+    for n in 0..64u8 {
+        ring.set_base(n / 4);
         digest = digest
             .wrapping_mul(0x9E37_79B9_7F4A_7C15)
-            .wrapping_add(windows.read(i) as u64);
+            .wrapping_add(ring.read(n % 4) as u64);
     }
     digest
 }
@@ -149,8 +150,8 @@ impl Side {
             && self.stopped == other.stopped
             && self.regs.pc == other.regs.pc
             && self.regs.waiting == other.regs.waiting
-            && is_same_special(&self.regs.sr, &other.regs.sr)
             && is_same_file(&self.regs.win, &other.regs.win)
+            && is_same_special(&self.regs.sr, &other.regs.sr)
     }
 
     /// The turns that are left.
@@ -185,13 +186,14 @@ impl Side {
         }
     }
 
-    /// A number that is the same for equal cores.
+    /// A number that is the same for equal cores. All registers and SCOMPARE1 are part of it: those of callers
+    /// and the value of a lock often differ where nothing else does.
     pub fn digest(&self) -> u64
         ensures { result ≡ side_mark self.now }
     {
-        let digest = (self.regs.pc as u64).wrapping_add(
-            (self.left as u64).wrapping_mul(0x1_0000_0000),
-        );
+        let digest = (self.regs.pc as u64)
+            .wrapping_add((self.left as u64).wrapping_mul(0x1_0000_0000))
+            .wrapping_add((self.regs.sr.register(number::SCOMPARE1) as u64).wrapping_mul(0x1_0001));
         mixed(digest, &self.regs.win)
     }
 }

@@ -19,7 +19,7 @@ use xt_core::stack_links;
 use xt_image::Image;
 use xt_map::Constants;
 use xt_search::{Changes, Machine};
-use xt_trace::Options;
+use xt_trace::{Options, StepRecord};
 use xt_window::Windows;
 
 /// The constant bytes of an image, what memory holds as its runs open, whether time is part of the
@@ -31,7 +31,7 @@ pub struct Timed<'a> {
     pub opening: Memory,
     pub timed: bool,
     pub(crate) places: Places,
-    pub(crate) dead: Dead,
+    pub dead: Dead,
     pub(crate) most_local: u16,
     alloc: Global,
     ghost sizes: { HasSizes opening.contents },
@@ -131,7 +131,9 @@ impl<'a> Timed<'a> {
     ghost use Rattle.xt_search.specs.Meetings.{after};
     ghost use Rattle.xt_search.specs.Changed.{IsLean, contents_of};
     ghost use Rattle.xt_outcomes.specs.Ahead.{IsAhead};
-    ghost use Rattle.xt_outcomes.specs.Dead.{fits, spot_forgotten};
+    ghost use Rattle.xt_exec.specs.Turn.{demand, turn};
+    ghost use Rattle.xt_trace.specs.Worlds.{answer};
+    ghost use Rattle.xt_outcomes.specs.Dead.{are_fit, dead_at, fits, spot_forgotten};
     ghost use Rattle.xt_outcomes.specs.KeptWorlds.{bars, moved_spot, spot_of};
     ghost use Rattle.xt_outcomes.specs.Nexts.{TurnsFit, next_bars, side_next, spot_next};
     ghost use Rattle.xt_outcomes.specs.Places.{is_local, is_told, spot_run, turns_of};
@@ -176,6 +178,33 @@ impl<'a> Timed<'a> {
         Ok(next)
     }
 
+    // What matters for dead registers of a core's next turn, which is this one.
+    fn passage(&self, side: &Side, ahead: &Ahead) -> Passage
+        ensures { (m : MemoryContents) → IsAhead (constant_byte self.now.code) side.now.state m ahead.now
+            → are_fit (dead_at self.now.dead.masks.items result.from) result.reads result.stays result.write (dead_at self.now.dead.masks.items result.to) ≡ fits (constant_byte self.now.code) self.now.dead.masks.items side.now.state }
+    {
+        Passage {
+            from: side.pc(),
+            to: ahead.regs.pc,
+            reads: reads_at(&self.code, side.pc()),
+            write: ahead.record.write,
+            stays: ahead.regs.win.base() == side.base(),
+        }
+    }
+
+    // Whether a turn fits what is taken for granted of registers.
+    fn fits(&self, passage: &Passage) -> bool
+        ensures { result ≡ are_fit (dead_at self.now.dead.masks.items passage.now.from) passage.now.reads passage.now.stays passage.now.write (dead_at self.now.dead.masks.items passage.now.to) }
+    {
+        are_fit(
+            self.dead.at(passage.from),
+            passage.reads,
+            passage.stays,
+            passage.write,
+            self.dead.at(passage.to),
+        )
+    }
+
     // Whether a core's next turn, which is this one, fits what is taken for granted of registers. It is
     // noted. The only error is running out of memory.
     fn is_fit(
@@ -187,21 +216,9 @@ impl<'a> Timed<'a> {
     ) -> Result<bool, AllocError>
         ensures { (m : MemoryContents) → IsAhead (constant_byte self.now.code) side.now.state m ahead.now → IfOk result (λ b. b ≡ fits (constant_byte self.now.code) self.now.dead.masks.items side.now.state) }
     {
-        let passage = Passage {
-            from: side.pc(),
-            to: ahead.regs.pc,
-            reads: reads_at(&self.code, side.pc()),
-            write: ahead.record.write,
-            stays: ahead.regs.win.base() == side.base(),
-        };
+        let passage = self.passage(side, ahead);
         desk.note(core, ahead.record.access, &passage)?;
-        Ok(are_fit(
-            self.dead.at(passage.from),
-            passage.reads,
-            passage.stays,
-            passage.write,
-            self.dead.at(passage.to),
-        ))
+        Ok(self.fits(&passage))
     }
 
     // Whether the search need not end before a core's next turn, which is this one. The only error is
@@ -259,6 +276,34 @@ impl<'a> Timed<'a> {
         side.come_past(ahead, self.timed);
         side.forget(&self.dead);
         Ok(())
+    }
+
+    /// A core makes its next turn, whose access is served, and answers the record of it; None: the turn does
+    /// not fit what is taken for granted of registers, and nothing has changed. The only error is running out
+    /// of memory.
+    ///
+    /// Condition: the core has a turn left.
+    pub fn make_next(
+        &self,
+        side: &mut Side,
+        changes: &mut Changes,
+    ) -> Result<Option<StepRecord>, AllocError>
+        requires left { 0 < side.old.left }
+        ensures side { IfOk result (λ o. IfSome o (λ r. side.new ≡ side_next (processor (constant_byte self.now.code)) self.now.timed self.now.dead.masks.items side.old.left side.old (contents_of self.now.opening.contents changes.old))) }
+        ensures memory { IfOk result (λ o. IfSome o (λ r. contents_of self.now.opening.contents changes.new ≡ memory_given (processor (constant_byte self.now.code)) side.old.left side.old.state (contents_of self.now.opening.contents changes.old))) }
+        ensures record { IfOk result (λ o. IfSome o (λ r. r ≡ (turn (constant_byte self.now.code) side.old.state (answer (demand (constant_byte self.now.code) side.old.state) (contents_of self.now.opening.contents changes.old))).0)) }
+        ensures fits { IfOk result (λ o. IfSome o (λ r. fits (constant_byte self.now.code) self.now.dead.masks.items side.old.state ≡ true)) }
+        ensures misfits { IfOk result (λ o. IfNone o (fits (constant_byte self.now.code) self.now.dead.masks.items side.old.state ≡ false)) }
+        ensures same_side { IfOk result (λ o. IfNone o (side.new ≡ side.old)) }
+        ensures same_changes { IfOk result (λ o. IfNone o (changes.new ≡ changes.old)) }
+    {
+        let ahead = side.ahead(&self.code, &self.opening, changes);
+        let passage = self.passage(side, &ahead);
+        if !self.fits(&passage) {
+            return Ok(None);
+        }
+        self.go_on(side, &ahead, changes)?;
+        Ok(Some(ahead.record))
     }
 
     /// Whether the places tell of the next turn of a core.

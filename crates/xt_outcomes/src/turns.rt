@@ -177,7 +177,7 @@ impl Side {
     }
 
     /// Leaves the registers out that are dead.
-    pub(crate) fn forget(&mut self, dead: &Dead)
+    pub fn forget(&mut self, dead: &Dead)
         ensures { self.new ≡ side_forgotten dead.now.masks.items self.old }
     {
         leave_dead(&mut self.regs, dead);

@@ -15,9 +15,43 @@ pub fn words_of<'a>(case: &'a str, part: &str) -> &'a str {
     ""
 }
 
+/// The number that follows a part's name.
+pub fn number_of(case: &str, part: &str) -> Option<u64> {
+    words_of(case, part).parse::<u64>().ok()
+}
+
 /// Whether there is such a part.
 pub fn has_part(case: &str, part: &str) -> bool {
-    case.lines().any(|line| line == part)
+    for line in case.lines() {
+        if line == part {
+            return true;
+        }
+    }
+    false
+}
+
+// Whether a line is one of a part's below its name: it is indented or empty.
+fn is_below(line: &str) -> bool {
+    line.is_empty() || line.starts_with("    ")
+}
+
+// Whether a line begins with a part's name.
+fn is_head(line: &str, part: &str) -> bool {
+    match line.strip_prefix(part) {
+        Some(rest) => rest.is_empty() || rest.starts_with(' '),
+        None => false,
+    }
+}
+
+// Appends a line below a part's name without the blanks before it, with a newline.
+fn push_line(lines: &mut String, line: &str, handlers: &str) -> Option<()> {
+    if line == "    %handlers" {
+        return lines.push_str(handlers).ok();
+    }
+    lines
+        .push_str(line.strip_prefix("    ").unwrap_or(""))
+        .ok()?;
+    lines.push('\n').ok()
 }
 
 /// The lines below a part's name, without the blanks before them, each with a newline. A line
@@ -26,15 +60,10 @@ pub fn lines_of(alloc: Global, case: &str, part: &str, handlers: &str) -> Option
     let mut lines = String::new(alloc);
     let mut is_inside = false;
     for line in case.lines() {
-        match line.strip_prefix("    ") {
-            Some("%handlers") if is_inside => lines.push_str(handlers).ok()?,
-            Some(text) if is_inside => {
-                lines.push_str(text).ok()?;
-                lines.push('\n').ok()?;
-            }
-            Some(_) => {}
-            None if line.is_empty() && is_inside => lines.push('\n').ok()?,
-            None => is_inside = line.split(' ').next() == Some(part),
+        if !is_below(line) {
+            is_inside = is_head(line, part);
+        } else if is_inside {
+            push_line(&mut lines, line, handlers)?;
         }
     }
     Some(lines)
@@ -42,25 +71,27 @@ pub fn lines_of(alloc: Global, case: &str, part: &str, handlers: &str) -> Option
 
 /// The bytes of a part, in hexadecimal.
 pub fn bytes_of(alloc: Global, case: &str, part: &str) -> Option<Vec<u8>> {
-    let digits = lines_of(alloc, case, part, "")?;
-    let digits = digits.as_str().replace(alloc, "\n", "").ok()?;
+    let lines = lines_of(alloc, case, part, "")?;
+    let digits = lines.as_str().replace(alloc, "\n", "").ok()?;
     hex::decode(alloc, digits.as_str()).ok()
 }
 
-/// The options of a case. If they say neither a seed nor an order, its list of cores is the order; if it has none, core 0
-/// makes all of its turns first.
-pub fn ordered(alloc: Global, case: &str) -> Option<String> {
-    let options = words_of(case, "options");
-    if options.contains("--seed") || options.contains("--order") {
-        return String::from_str(alloc, options).ok();
+/// Whether the lines of a part are all of an output.
+pub fn is_output(alloc: Global, case: &str, output: &[u8]) -> Option<bool> {
+    let lines = lines_of(alloc, case, "output", "")?;
+    Some(lines.as_bytes() == output)
+}
+
+/// Whether an output is what a case says of it, if it says that.
+pub fn has_output(alloc: Global, case: &str, output: &[u8]) -> Option<bool> {
+    if has_part(case, "written") {
+        let written = bytes_of(alloc, case, "written")?;
+        return Some(written.as_slice() == output);
     }
-    let list = words_of(case, "schedule").replace(alloc, " ", ",").ok()?;
-    let list = if list.is_empty() {
-        "0*0"
-    } else {
-        list.as_str()
-    };
-    format!(in alloc; "{options} --order {list}").ok()
+    if has_part(case, "output") {
+        return is_output(alloc, case, output);
+    }
+    Some(true)
 }
 
 /// Whether the lines stand in a text, in their order.
@@ -78,8 +109,13 @@ pub fn has_lines(text: &str, lines: &str) -> bool {
 /// Whether the first lines of a text begin with these lines, each with the one in its place.
 pub fn has_starts(text: &str, starts: &str) -> bool {
     let mut lines = text.lines();
-    starts.lines().all(|start| match lines.next() {
-        Some(line) => line.starts_with(start),
-        None => false,
-    })
+    for start in starts.lines() {
+        let Some(line) = lines.next() else {
+            return false;
+        };
+        if !line.starts_with(start) {
+            return false;
+        }
+    }
+    true
 }

@@ -1,27 +1,12 @@
-//! Both cores of the program beside each other: each makes fifty stores, and waits before each of them until the other has
-//! come as far.
+//! Both cores of the program beside each other: each waits before its accesses until the other has come as far.
 
-use crate::asking::{Devices, asked_over, words_in};
+use crate::asking::{asked_at, words_in};
+use crate::cases::{lines_of, number_of, words_of};
 use std::sync::Wait;
 use std::sync::atomic::{AtomicU64, Ordering};
 use std::thread;
 use std::thread::Threads;
-use xt_cli::Status;
 use xt_io::Gate;
-
-/// `movi a4, 50`, `s32i a4, a1, 0`, `addi a4, a4, -1`, `bnez a4` to the store, `break 1, 15` at
-/// 0x40080400, in hexadecimal digits.
-const FIFTY_STORES: &str = "E901022000040840EE0000000000000000FFFF00000000000004084010000000\
-42A03242610042C4FF5664FFF041000000000000000000000000000000000019";
-
-/// The report of its run, up to the history.
-const REPORT: &str = "uart 0\n\ncore 0 stop break turns 152 pc 4008040C\n\
-core 1 stop break turns 152 pc 4008040C\nhistory 100\n";
-
-/// The summary of the image of the number 1: the sum of its table's words, modulo 2^32, was worked out
-/// by a program apart from this one.
-const SUMMARY: &str = "gen 1\nimage 131712\nuart 6B8A4000\ncore 0 stop break\n\
-core 1 stop break\nframes whole\n";
 
 /// How often a core looks for the other's note before one access.
 const LOOKS: u64 = 2_000_000;
@@ -46,6 +31,13 @@ impl Meet {
             failed: AtomicU64::new(0),
         }
     }
+
+    /// Whether both cores met before each of these accesses.
+    fn has_met(&self) -> bool {
+        self.zero.load(Ordering::SeqCst) == self.most
+            && self.one.load(Ordering::SeqCst) == self.most
+            && self.failed.load(Ordering::SeqCst) == 0
+    }
 }
 
 impl Gate for Meet {
@@ -69,35 +61,21 @@ impl Gate for Meet {
     }
 }
 
-// Whether both cores meet at a gate in what a line of words does with the image, which writes this first.
-fn both_meet<R: Threads + Wait + Sync + AllocGlobal>(
+/// Whether both cores meet before as many accesses as a case says, in what its words do with an image, and what they write
+/// begins with a word and lines of the case.
+pub fn both_meet<R: Threads + Wait + Sync + AllocGlobal>(
     rt: &R,
-    line: &str,
-    starts: &str,
+    case: &str,
+    image: &[u8],
 ) -> Option<bool> {
-    let image = hex::decode(rt.alloc(), FIFTY_STORES).ok()?;
-    let devices = Devices {
-        most: 1_048_576,
-        failing_reads: &[],
-        failing_writes: &[],
-    };
-    let gate = Meet::new(50);
-    let words: Result<Vec<String>, Status> = Ok(words_in(rt.alloc(), line)?);
-    let ended = asked_over(rt, &words, &image, &devices, &gate)?;
+    let gate = Meet::new(number_of(case, "meets")?);
+    let lines = lines_of(rt.alloc(), case, "starts", "")?;
+    let words = Ok(words_in(rt.alloc(), &[words_of(case, "words")])?);
+    let end = asked_at(rt, &words, image, &gate)?;
     Some(
-        ended.code == 0
-            && gate.zero.load(Ordering::SeqCst) == 50
-            && gate.one.load(Ordering::SeqCst) == 50
-            && gate.failed.load(Ordering::SeqCst) == 0
-            && ended.output.starts_with(starts.as_bytes()),
-    )
-}
-
-/// Whether both cores meet in a run, in one that is recorded, and in that of a number's image.
-pub fn agree<R: Threads + Wait + Sync + AllocGlobal>(rt: &R) -> Option<bool> {
-    Some(
-        both_meet(rt, "run --turns0 1000 --turns1 1000", REPORT)?
-            && both_meet(rt, "record --turns0 1000 --turns1 1000", "XTRC")?
-            && both_meet(rt, "gen 1", SUMMARY)?,
+        end.code == 0
+            && gate.has_met()
+            && end.output.starts_with(words_of(case, "begins").as_bytes())
+            && end.output.starts_with(lines.as_bytes()),
     )
 }

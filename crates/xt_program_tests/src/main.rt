@@ -1,8 +1,8 @@
 //! Asks the program the cases of the files that its words name, and prints the name of each that does not agree, and how
-//! many of a file's cases agree; then what the devices, gates and inputs do that no file can hold.
+//! many of a file's cases agree.
 //!
-//! A case is a program or other input with what comes out of it; the head of each file of `bench/cases` says which parts
-//! it has. What comes out was found without this program, by other means.
+//! A case is a program or other input with what comes out of it; the head of each file of cases says which parts it has.
+//! What comes out was found without this program, by other means.
 #![tactic(auto)]
 
 mod asking;
@@ -20,16 +20,16 @@ use std::sync::Wait;
 use std::thread::Threads;
 use std::{env, fs};
 
-// Asks the cases of a file, and prints how many agree; none where that failed.
+// Asks the cases of a file's text, and prints how many agree; none where that failed.
 fn show<R: Files + Print + Threads + Wait + Sync + AllocGlobal>(
     rt: &R,
     name: &str,
+    text: &str,
     handlers: &str,
 ) -> Option<()> {
-    let text = fs::read_to_string(rt, name).ok()?;
     let mut count = 0u64;
     let mut good = 0u64;
-    for case in text.as_str().split("\nend\n") {
+    for case in text.split("\nend\n") {
         let title = words_of(case, "case");
         if title.is_empty() {
             continue;
@@ -44,32 +44,23 @@ fn show<R: Files + Print + Threads + Wait + Sync + AllocGlobal>(
     println!(rt; "{name}: {good} of {count} cases agree").ok()
 }
 
-// Prints whether something agrees.
-fn tell(rt: &impl Print, name: &str, agrees: Option<bool>) -> Option<()> {
-    let says = if agrees == Some(true) {
-        "agree"
-    } else {
-        "differ"
-    };
-    println!(rt; "{name} {says}").ok()
+// Asks the cases of a file.
+fn show_file<R: Files + Print + Threads + Wait + Sync + AllocGlobal>(
+    rt: &R,
+    name: &str,
+    handlers: &str,
+) -> Option<()> {
+    let text = fs::read_to_string(rt, name).ok()?;
+    show(rt, name, text.as_str(), handlers)
 }
 
-// Shows all files that the words name, and then what no file can hold.
+// Asks the cases of all files that the words name.
 fn show_all<R: Env + Files + Print + Threads + Wait + Sync + AllocGlobal>(rt: &R) -> Option<()> {
     let handlers = fs::read_to_string(rt, "handlers.s").ok()?;
     for name in env::args(rt).ok()?.skip(1) {
-        show(rt, name.as_str(), handlers.as_str())?;
+        show_file(rt, name.as_str(), handlers.as_str())?;
     }
-    tell(rt, "both cores at a gate", gates::agree(rt))?;
-    tell(rt, "devices that fail at each call", devices::agree(rt))?;
-    tell(
-        rt,
-        "sessions over devices that fail",
-        devices::sessions_agree(rt),
-    )?;
-    tell(rt, "inputs that are too long", inputs::agree(rt))?;
-    tell(rt, "words that are no text", inputs::words_agree(rt))?;
-    tell(rt, "images of numbers", numbers::agree(rt))
+    Some(())
 }
 
 fn main(rt: HostRuntime) -> ExitCode {

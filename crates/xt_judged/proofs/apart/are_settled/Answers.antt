@@ -5,7 +5,6 @@ use Rattle.xt_map.specs.Memory.{constant_byte}
 use Rattle.xt_search.specs.Graphs.{IsAt}
 use Rattle.xt_search.proofs.Numbers.{at_kept, at_once, at_within}
 use Rattle.xt_judged.specs.WatchedKept.{AreSettled}
-use Rattle.xt_judged.specs.declared.watched.Watched.{Watched}
 use Rattle.xt_judged.proofs.apart.are_settled.Goals as goal
 
 pub loop-number-preserved : goal.loop-number-preserved

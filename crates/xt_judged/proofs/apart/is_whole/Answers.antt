@@ -1,11 +1,12 @@
 use Rattle.std.proofs.Common.{ℕ, List, sym, subst}
 use Rattle.xt_map.specs.declared.segment.Segment.{Segment}
 use Rattle.xt_map.specs.Memory.{HasSizes, constant_byte}
-use Rattle.xt_search.specs.Graphs.{HasAll, IsAt, IsGraph}
+use Rattle.xt_search.specs.Graphs.{IsAt, IsGraph}
 use Rattle.xt_trace.specs.declared.options.Stack.{Stack}
 use Rattle.xt_core.specs.Runs.{code_of, memory_of}
+use Rattle.xt_judged.specs.Forgotten.{Leads}
 use Rattle.xt_judged.specs.OwnJudges.{range_of}
-use Rattle.xt_judged.specs.WatchedKept.{AreSettled, Leads}
+use Rattle.xt_judged.specs.WatchedKept.{AreSettled}
 use Rattle.xt_judged.specs.declared.watched.Watched.{Watched}
 use Rattle.xt_judged.proofs.Every.{carried}
 use Rattle.xt_judged.proofs.Whole.{all_are_whole}
@@ -20,10 +21,10 @@ has_all-requires c =
     let o = c.args.options.now in
     let h = c.requires.search in
     let ps = s.machine.places.list.items in
-    let n = s.machine.most_local in
-    let here = subst (λ (k : Stack). IsGraph (Leads (code_of image) (range_of o.stack0) (range_of k) c.args.timed ps n (memory_of image o)) s.graph) (sym h.stack1) h.graph in
-    let both = subst (λ (k : Stack). IsGraph (Leads (code_of image) (range_of k) (range_of s.machine.stack1) c.args.timed ps n (memory_of image o)) s.graph) (sym h.stack0) here in
-    carried (λ k b m. IsGraph (Leads k (range_of s.machine.stack0) (range_of s.machine.stack1) b ps n m) s.graph) image.segments t.code c.args.timed t.timed (memory_of image o) t.opening.contents (sym h.code) (sym h.is_timed) (sym h.opening) both
+    let ms = t.dead.masks.items in
+    let here = subst (λ (k : Stack). IsGraph (Leads (code_of image) ms (range_of o.stack0) (range_of k) c.args.timed ps (memory_of image o)) s.graph) (sym h.stack1) h.graph in
+    let both = subst (λ (k : Stack). IsGraph (Leads (code_of image) ms (range_of k) (range_of s.machine.stack1) c.args.timed ps (memory_of image o)) s.graph) (sym h.stack0) here in
+    carried (λ k b m. IsGraph (Leads k ms (range_of s.machine.stack0) (range_of s.machine.stack1) b ps m) s.graph) image.segments t.code c.args.timed t.timed (memory_of image o) t.opening.contents (sym h.code) (sym h.is_timed) (sym h.opening) both
 
 pub returns : goal.returns
 returns c = λ e.
@@ -33,10 +34,6 @@ returns c = λ e.
     let o = c.args.options.now in
     let h = c.requires.search in
     let ps = s.machine.places.list.items in
-    let n = s.machine.most_local in
-    let all = carried (λ k b m. HasAll (Leads k (range_of s.machine.stack0) (range_of s.machine.stack1) b ps n m) s.graph) t.code image.segments t.timed c.args.timed t.opening.contents (memory_of image o) h.code h.is_timed h.opening (c.has_all.ensures.all e) in
-    let here = subst (λ (k : Stack). HasAll (Leads (code_of image) (range_of k) (range_of s.machine.stack1) c.args.timed ps n (memory_of image o)) s.graph) h.stack0 all in
-    let both = subst (λ (k : Stack). HasAll (Leads (code_of image) (range_of o.stack0) (range_of k) c.args.timed ps n (memory_of image o)) s.graph) h.stack1 here in
     let settled = subst (λ (l : List Segment). (k : ℕ) (w : Watched) → IsAt s.graph.kept.items k w → AreSettled (constant_byte l) ps w) h.code (c.are_settled.ensures c.if-not-are_settled.false) in
     let sizes = subst HasSizes h.opening t.sizes in
-    all_whole_apart image o c.args.timed c.requires.valid (c.are_apart.ensures c.if-not-are_apart.false) ps n s.graph h.first.0 h.first.1 both settled sizes h.first.2 all_are_whole h.bytes c.requires.checked
+    all_whole_apart image o c.args.timed c.requires.valid (c.are_apart.ensures c.if-not-are_apart.false) ps t.dead.masks.items s.graph h.first.0 h.first.1 h.graph (c.has_all.ensures.whole.0 e) settled sizes h.first.2 all_are_whole h.bytes c.requires.checked

@@ -4,8 +4,8 @@ use Rattle.xt_search.specs.Graphs.{IsGraph}
 use Rattle.xt_core.specs.Runs.{memory_of}
 use Rattle.xt_trace.specs.declared.options.Stack.{Stack}
 use Rattle.xt_outcomes.proofs.CodeBytes.{code_bytes}
+use Rattle.xt_judged.specs.Forgotten.{Leads}
 use Rattle.xt_judged.specs.OwnJudges.{range_of}
-use Rattle.xt_judged.specs.WatchedKept.{Leads}
 use Rattle.xt_judged.proofs.Every.{carried}
 use Rattle.xt_judged.proofs.Trees.{tree_of}
 use Rattle.xt_judged.proofs.apart.searched.Goals as goal
@@ -19,9 +19,10 @@ returns-clause-search c =
     let o = c.args.options.now in
     let m = memory_of image o in
     let ps = s.places.list.items in
+    let ms = t.dead.masks.items in
     let code : ℕ → ℕ = constant_byte t.code in
-    let some = subst (λ (r : Stack). IsGraph (Leads code (range_of r) (range_of s.stack1) t.timed ps s.most_local t.opening.contents) g) c.requires.stack0 c.in_ok-graph.ensures.graph in
-    let both = subst (λ (r : Stack). IsGraph (Leads code (range_of o.stack0) (range_of r) t.timed ps s.most_local t.opening.contents) g) c.requires.stack1 some in
+    let some = subst (λ (r : Stack). IsGraph (Leads code ms (range_of r) (range_of s.stack1) t.timed ps t.opening.contents) g) c.requires.stack0 c.in_ok-graph.ensures.graph in
+    let both = subst (λ (r : Stack). IsGraph (Leads code ms (range_of o.stack0) (range_of r) t.timed ps t.opening.contents) g) c.requires.stack1 some in
     record {
       bytes = code_bytes image c.requires.fits;
       code = c.requires.code;
@@ -29,7 +30,7 @@ returns-clause-search c =
       is_timed = c.requires.is_timed;
       stack0 = c.requires.stack0;
       stack1 = c.requires.stack1;
-      graph = carried (λ k b n. IsGraph (Leads k (range_of o.stack0) (range_of o.stack1) b ps s.most_local n) g) t.code image.segments t.timed c.args.timed t.opening.contents m c.requires.code c.requires.is_timed c.requires.memory both;
+      graph = carried (λ k b n. IsGraph (Leads k ms (range_of o.stack0) (range_of o.stack1) b ps n) g) t.code image.segments t.timed c.args.timed t.opening.contents m c.requires.code c.requires.is_timed c.requires.memory both;
       first = (c.in_ok-opening.opening, c.in_ok-graph.ensures.opens, c.in_ok-opening.ensures);
     }
 

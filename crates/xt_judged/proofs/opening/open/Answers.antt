@@ -1,4 +1,4 @@
-use Rattle.std.proofs.Common.{None, ap, ◌∙◌}
+use Rattle.std.proofs.Common.{None, ◌∙◌}
 use Rattle.xt_judged.specs.Stales.{among}
 use Rattle.xt_judged.proofs.Turned.{made}
 use Rattle.xt_judged.proofs.opening.open.Goals as goal

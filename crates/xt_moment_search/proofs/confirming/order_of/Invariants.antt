@@ -2,7 +2,7 @@ use Rattle.std.proofs.Common.{◌<◌, reverse, length}
 use Rattle.std.specs.List.{All}
 use Rattle.xt_search.specs.Graphs.{IsAt}
 use Rattle.xt_moments.specs.Moments.{IsMove}
-use Rattle.xt_moment_search.specs.Stuckness.{MovesLead}
+use Rattle.xt_moment_search.specs.Stuckness.{IsPath}
 use Rattle.xt_moment_search.specs.declared.worlds.World.{World}
 use Rattle.xt_moment_search.proofs.confirming.order_of.Given as goal
 
@@ -11,7 +11,7 @@ abbrev pub invariant-loop-at : goal.invariant-loop-at
 invariant-loop-at l = record {
   within : l.at < length l.graph.kept.items;
   moves : All IsMove (reverse l.order.items);
-  leads : (v w : World) → IsAt l.graph.kept.items l.at v → IsAt l.graph.kept.items l.number w → MovesLead l.machine.ground (reverse l.order.items) v w;
+  path : (v w : World) → IsAt l.graph.kept.items l.at v → IsAt l.graph.kept.items l.number w → IsPath l.machine.ground (reverse l.order.items) v w;
 }
 
 abbrev pub decreases-loop-at : goal.decreases-loop-at

@@ -1,8 +1,11 @@
 use Rattle.std.proofs.Common.{◌≡◌, ◌<◌, ℕ, List, Bool, true, Some, length, slice_get, subst}
+use Rattle.std.specs.List.{All}
+use Rattle.std.specs.Prelude.{IfSome}
+use Rattle.xt_moments.specs.Moments.{IsMove}
 use Rattle.xt_search.specs.Ends.{IsSettled}
 use Rattle.xt_search.specs.Graphs.{IsAt}
 use Rattle.xt_search.proofs.Numbers.{at_within}
-use Rattle.xt_moment_search.specs.Stuckness.{IsUnmarked, has_ended}
+use Rattle.xt_moment_search.specs.Stuckness.{IsUnmarked, OrderLeads, has_ended}
 use Rattle.xt_moment_search.specs.declared.worlds.World.{World}
 use Rattle.xt_moment_search.proofs.Ended.{all_settled, never_stuck}
 use Rattle.xt_moment_search.proofs.stuck.stuck_in.Goals as goal
@@ -29,11 +32,11 @@ returns c =
     (c.are_settled.ensures c.if-not-are_settled.false) in (
       c.requires.whole,
       record {
-        are_moves = c.in_ok-order.ensures.moves;
+        are_moves = subst (λ r. IfSome r (λ o. All IsMove o.items)) c.in-Some-found.is c.in_ok-found.ensures.moves;
         number = c.in-Some.number;
         marks = ms;
         unmarked = subst (λ (l : List Bool). IsUnmarked graph l c.in-Some.number) c.as_slice-2.ensures.value c.in-Some.ensures.some;
         settled = all_settled c.args.machine.now.ground graph ms c.in_ok-marks.ensures settled;
-        leads = c.in_ok-order.ensures.leads;
+        leads = subst (λ r. IfSome r (λ o. OrderLeads c.args.machine.now.ground graph o.items c.in-Some.number)) c.in-Some-found.is c.in_ok-found.ensures.leads;
       },
     )

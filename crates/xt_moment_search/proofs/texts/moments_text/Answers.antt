@@ -20,6 +20,7 @@ returns c =
       real = c.in_ok-answers.ensures.real;
       stuck_is = c.in_ok-answers.ensures.stuck;
       complete = c.in_ok-answers.ensures.complete;
+      known = c.in_ok-answers.ensures.known;
       text_is = c.new.ensures ∙ c.in_ok-push_order.ensures
           ∙ (λ i. c.in_ok-out.ensures i ++ lines (c.shown_order.ensures i));
     }

@@ -1,39 +1,41 @@
-use Rattle.std.proofs.Common.{◌≡◌, ℕ, List, Result, false, sym, ap, ◌∙◌, subst}
-use Rattle.std.specs.Prelude.{IfOk}
+use Rattle.std.proofs.Common.{◌≡◌, ℕ, Result, false, sym, ◌∙◌, subst}
+use Rattle.std.specs.Prelude.{None}
 use Rattle.xt_map.specs.Memory.{constant_byte}
 use Rattle.xt_frames.specs.declared.kinds.BreachKind.{BreachKind}
-use Rattle.xt_judged.specs.OwnJudges.{Judge, comes_to, judge_past, range_of}
-use Rattle.xt_judged.specs.Past.{IsOnStack}
-use Rattle.xt_judged.specs.Seen.{IsKnownPast}
-use Rattle.xt_judged.specs.Stales.{among}
-use Rattle.xt_judged.specs.Kept.{standing_of}
-use Rattle.xt_judged.specs.WatchedKept.{judge_of}
-use Rattle.xt_judged.specs.declared.record.Known.{Known}
-use Rattle.xt_judged.specs.declared.watched.Fate.{Fate}
-use Rattle.xt_judged.specs.declared.watched.Fate.TheVariants as fate
-use Rattle.xt_judged.specs.declared.watched.OwnJudge.{OwnJudge}
-use Rattle.xt_judged.proofs.JudgePast.{alone, past_broken, past_known}
-use Rattle.xt_judged.proofs.SeenAs.{if_ok}
+use Rattle.xt_judged.specs.OwnJudges.{comes_to, range_of}
+use Rattle.xt_judged.specs.Seen.{IsApartAfter, IsKnownAfter}
+use Rattle.xt_judged.specs.declared.record.Beside.{Beside}
+use Rattle.xt_judged.proofs.JudgePast.{alone, apart_copied, past_broken, past_copied}
 use Rattle.xt_judged.proofs.watched.OwnJudge.past.Goals as goal
 
-pub returns-in_ok-stale-in-Ok-clause-judge : goal.returns-in_ok-stale-in-Ok-clause-judge
-returns-in_ok-stale-in-Ok-clause-judge c =
+pub returns-in_ok-self-in-Ok-clause-judge : goal.returns-in_ok-self-in-Ok-clause-judge
+returns-in_ok-self-in-Ok-clause-judge c =
     let code : ℕ → ℕ = constant_byte c.args.code.now in
+    let other = range_of c.args.other in
     let j = c.args.self.now in
     let rec = c.args.rec.now in
-    let k : Known = c.in-Ok.known in
-    let spared : comes_to (range_of c.args.other) rec.access ≡ false = sym c.comes_to.ensures ∙ c.if-comes_to.false in
-    let seen = subst (λ (r : Result Known BreachKind). IsKnownPast j.standing j.stale (alone code (range_of c.args.other) c.args.core j rec) r) c.in-Ok.is c.in_ok-known.ensures.known in
-    let on = subst (λ (r : Result Known BreachKind). IfOk r (λ (x : Known). IsOnStack x.standing.frames)) c.in-Ok.is c.in_ok-known.ensures.stack in
-    ap (λ (l : List ℕ). let n : Judge = record { standing = standing_of k.standing; bounds = k.standing.frames.bounds; stale = among l; fate = j.fate } in n) c.in_ok-stale-in-Ok.ensures
-    ∙ past_known code (range_of c.args.other) c.args.core j rec k spared on seen
+    let new = c.see_beside.new.frames in
+    let seen = c.in_ok-beside.ensures in
+    let apart : comes_to other rec.access ≡ false = sym c.comes_to.ensures ∙ c.if-comes_to.false in
+    past_copied code other c.args.core j rec c.in-Ok.beside new c.in_ok-self-in-Ok.field-0 c.renew.new.stale c.in_ok-self-in-Ok.ensures
+    (rw c.in-Ok.is at seen.whole) c.renew.ensures apart (rw c.in-Ok.is at seen.stack)
+    (subst (λ (r : Result Beside BreachKind). IsKnownAfter j.standing j.stale new (alone code other c.args.core j rec) r) c.in-Ok.is seen.known)
+
+pub returns-in_ok-self-in-Ok-clause-apart : goal.returns-in_ok-self-in-Ok-clause-apart
+returns-in_ok-self-in-Ok-clause-apart c =
+    let j = c.args.self.now in
+    let new = c.see_beside.new.frames in
+    let seen = c.in_ok-beside.ensures in
+    apart_copied c.in-Ok.beside new c.in_ok-self-in-Ok.field-0 c.in_ok-self-in-Ok.ensures (rw c.in-Ok.is at seen.whole)
+    None j.stale c.renew.new.stale c.renew.ensures
+    (subst (λ (r : Result Beside BreachKind). IsApartAfter None j.stale new r) c.in-Ok.is seen.apart)
 
 pub returns-in-Err-clause-judge : goal.returns-in-Err-clause-judge
 returns-in-Err-clause-judge c =
     let code : ℕ → ℕ = constant_byte c.args.code.now in
+    let other = range_of c.args.other in
     let j = c.args.self.now in
     let rec = c.args.rec.now in
-    let spared : comes_to (range_of c.args.other) rec.access ≡ false = sym c.comes_to.ensures ∙ c.if-comes_to.false in
-    let seen = subst (λ (r : Result Known BreachKind). IsKnownPast j.standing j.stale (alone code (range_of c.args.other) c.args.core j rec) r) c.in-Err.is c.in_ok-known.ensures.known in
-    let there = past_broken code (range_of c.args.other) c.args.core j rec c.in-Err.kind spared seen in
-    if_ok c.with_fate-in-Err.result (λ (k : OwnJudge). let n : Judge = record (judge_of j) { fate = fate.Broke (record { core = c.args.core; pc = rec.pc; kind = c.in-Err.kind }) } in judge_of k ≡ n) (λ (k : OwnJudge). judge_of k ≡ judge_past code (range_of c.args.other) c.args.core (judge_of j) rec) (λ k h. h ∙ there) c.with_fate-in-Err.ensures.judge
+    let apart : comes_to other rec.access ≡ false = sym c.comes_to.ensures ∙ c.if-comes_to.false in
+    past_broken code other c.args.core j rec c.in-Err.kind apart
+    (subst (λ (r : Result Beside BreachKind). IsKnownAfter j.standing j.stale c.see_beside.new.frames (alone code other c.args.core j rec) r) c.in-Err.is c.in_ok-beside.ensures.known)

@@ -1,10 +1,18 @@
-use Rattle.std.proofs.Common.{subst, sym}
+use Rattle.std.proofs.Common.{◌≡◌, ◌<◌, ◌∙◌, Option, ap, sym, subst}
+use Rattle.std.specs.Prelude.{IfSome}
 use Rattle.xt_map.specs.Memory.{constant_byte}
-use Rattle.xt_moments.specs.declared.moves.Move.{Move}
-use Rattle.xt_moment_search.specs.Covering.{Leads}
+use Rattle.xt_moment_search.specs.Covering.{HasRun, LeadsAt, snapshot_of}
+use Rattle.xt_moment_search.specs.declared.snapshots.Snapshot.{Snapshot}
+use Rattle.xt_moment_search.proofs.Leading.{parts_snapshot}
 use Rattle.xt_moment_search.proofs.machine.Moments.made.Goals as goal
 
-pub returns-in_ok-next-in-Fires-clause-leads : goal.returns-in_ok-next-in-Fires-clause-leads
-returns-in_ok-next-in-Fires-clause-leads c =
+pub returns-clause-leads : goal.returns-clause-leads
+returns-clause-leads c =
     let g = c.args.self.now.ground in
-    subst (λ (m : Move). Leads (constant_byte g.code) g.opening.contents g.cleared.contents m c.args.world.now c.in_ok-next-in-Fires.next) (sym c.in-Fires.is) c.in_ok-next-in-Fires.ensures.leads
+    let code = constant_byte g.code in
+    let o = g.opening.contents in
+    let z = g.cleared.contents in
+    let v = snapshot_of c.args.world.now in
+    let h = subst (λ x. IfSome x (HasRun code o z c.args.made v)) c.in-Some.is c.in_ok-ran.ensures in
+    subst (λ (x : Snapshot). LeadsAt code o z c.args.made v x)
+    (parts_snapshot c.in-Some.run'.at c.in_ok-next.next c.in_ok-next.ensures.parts) h.lead

@@ -1,27 +1,5 @@
-use Rattle.std.proofs.Common.{◌≡◌, ℕ, ap, ◌∙◌}
-use Rattle.std.specs.Prelude.{◌==◌}
-use Rattle.xt_map.specs.Memory.{constant_byte}
-use Rattle.xt_trace.specs.Worlds.{answer}
-use Rattle.xt_map.specs.Fetching.{fetch_at}
-use Rattle.xt_exec.specs.States.{file_state}
-use Rattle.xt_exec.specs.Turn.{demand}
-use Rattle.xt_outcomes.specs.Dead.{are_fit, dead_at, reads_of}
-use Rattle.xt_outcomes.proofs.Fitting.{fit_is}
+use Rattle.std.proofs.Common.{◌∙◌}
 use Rattle.xt_outcomes.proofs.timed.Timed.is_fit.Goals as goal
 
 pub returns : goal.returns
-returns c = λ m h.
-    let t = c.args.self.now in
-    let code = constant_byte t.code in
-    let ms = t.dead.masks.items in
-    let s = c.args.side.now.state in
-    let x = c.args.ahead.now.record in
-    let u = file_state c.args.ahead.now.regs in
-    let before = c.at.ensures ∙ ap (dead_at ms) c.pc.ensures in
-    let reads = c.reads_at.ensures ∙ ap (λ (pc : ℕ). reads_of (fetch_at code pc)) c.pc-2.ensures in
-    let base : c.base.result ≡ u.base = c.base.ensures.value in
-    let same : c.base-2.result ≡ s.base = c.base-2.ensures in
-    let later : c.at-2.result ≡ dead_at ms u.control.pc = c.at-2.ensures in
-    c.are_fit.ensures
-    ∙ (λ i. are_fit (before i) (reads i) (base i == same i) x.write (later i))
-    ∙ fit_is code ms s (answer (demand code s) m) x u h.turn
+returns c = λ m h. c.fits.ensures ∙ c.passage-passage.ensures m h
