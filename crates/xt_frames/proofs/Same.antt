@@ -1,15 +1,12 @@
 -- What is equal part by part is equal.
-use Rattle.std.proofs.Common.{◌≡◌, ℕ, ◌<◌, Bool, true, false, Option, Some, None, List, [], ◌∷◌, suc, length, get_or, map, reverse, refl, sym, ap, ◌∙◌, arith}
+use Rattle.std.proofs.Common.{◌≡◌, ℕ, ◌<◌, Bool, Option, Some, None, List, [], ◌∷◌, suc, length, get_or, map, reverse, refl, sym, ap, arith}
 use Rattle.std.specs.Bool.{Decides}
 use Rattle.std.specs.Option.{option_eq}
 use Rattle.std.specs.Prelude.{nat_eq, slice_get}
 use Rattle.std.specs.Cmp.Lexicographic.{pointwise}
 use Rattle.std.proofs.lemmas.Bool.Decides.{Decides-eqb}
 use Rattle.std.proofs.lemmas.Bool.{true≢false}
-use Rattle.std.proofs.lemmas.List.{ext_get_or}
 use Rattle.std.proofs.lemmas.Slice.Eq.{slice_eq-Decides}
-use Rattle.xt_special.specs.declared.ps.Ps.{Ps}
-use Rattle.xt_special.specs.Values.{Specials}
 use Rattle.xt_frames.specs.KeptFrameState.{frame_of, frames_of}
 use Rattle.xt_frames.specs.declared.view.Caller.{Caller}
 use Rattle.xt_frames.proofs.Newest.{nobody}
@@ -20,14 +17,8 @@ options None (Some y) = (λ h. absurd (true≢false (sym h)), λ h. cc)
 options (Some x) None = (λ h. absurd (true≢false (sym h)), λ h. cc)
 options (Some x) (Some y) = (λ h. ap (λ (n : ℕ). let o : Option ℕ = Some n in o) ((Decides-eqb x y).0 h), λ h. (Decides-eqb x y).1 (cc))
 
-pub same_values : (xs ys : List (Option ℕ)) (r : Bool) → r ≡ pointwise (option_eq nat_eq) xs ys → r ≡ true → xs ≡ ys
-same_values xs ys r e t = (slice_eq-Decides options xs ys r e).0 t
-
-pub special_same : (a b : Specials) → length a.file ≡ 256 → length b.file ≡ 256 → ((k : ℕ) → k < 256 → get_or a.file k 0 ≡ get_or b.file k 0) → a.ps ≡ b.ps → a.threadptr ≡ b.threadptr → a ≡ b
-special_same a b e f h p t =
-    let make : Ps → List ℕ → ℕ → Specials = λ x y z. record { ps = x; file = y; threadptr = z } in
-    let same : a.file ≡ b.file = ext_get_or 0 a.file b.file (e ∙ sym f) (λ i less. h i (let g : i < length a.file = less in omega (arith, e, g))) in
-    ap (λ (x : Ps). make x a.file a.threadptr) p ∙ ap (λ (y : List ℕ). make b.ps y a.threadptr) same ∙ ap (make b.ps b.file) t
+pub decided : (xs ys : List (Option ℕ)) (r : Bool) → r ≡ pointwise (option_eq nat_eq) xs ys → Decides r (xs ≡ ys)
+decided xs ys r e = slice_eq-Decides options xs ys r e
 
 pub same_items : {A : Type 0} (xs ys : List A) → length xs ≡ length ys → ((k : ℕ) → k < length xs → slice_get xs k ≡ slice_get ys k) → xs ≡ ys
 same_items [] [] e h = refl

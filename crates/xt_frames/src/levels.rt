@@ -9,9 +9,15 @@ ghost use Rattle.xt_special.specs.Numbers as numbers;
 
 use crate::frames::Frames;
 use crate::registers::Seen;
-use crate::snapshots::is_same_ps;
 use crate::view::FrameRegisters;
-use xt_special::{Special, number};
+use xt_special::{Ps, Special, number};
+
+// Whether all fields of PS are equal.
+fn is_same_ps(a: Ps, b: Ps) -> bool
+    ensures { result ≡ true → a ≡ b }
+{
+    a == b
+}
 
 /// Whether both hold the same words at the register numbers from the first on, up to but without the second.
 fn are_same_between(a: &Special, b: &Special, from: u32, to: u32) -> bool

@@ -1,9 +1,8 @@
 //! Copies of a core of the machine with unbounded frames.
 #![tactic(auto)]
 
-ghost use Rattle.std.specs.Prelude.{◌≡◌, ◌≢◌, ◌≤◌, ◌<◌, true, None, IfOk, OnOk, length, slice_set, vec_capacity};
+ghost use Rattle.std.specs.Prelude.{◌≡◌, ◌≤◌, ◌<◌, true, IfOk, OnOk, length, vec_capacity};
 ghost use Rattle.xt_frames.specs.KeptFrameState.{frame_of, frames_of};
-ghost use Rattle.xt_frames.specs.Nesting.{current};
 ghost use Rattle.xt_frames.specs.Stacks.{AreFrames};
 
 use crate::breach::Limits;
@@ -12,7 +11,6 @@ use crate::holes::{Nested, UndefinedParts};
 use crate::view::{Caller, FrameRegisters};
 use std::alloc::{AllocError, Global};
 use std::marker::Model;
-use xt_special::{Ps, Special};
 
 /// A copy of a core of the machine with unbounded frames, in as much memory as its frames take.
 /// Contracts see what they see of the core.
@@ -76,63 +74,32 @@ fn put(callers: &mut Vec<Caller>, items: &[Caller])
     }
 }
 
-// Whether all fields of PS are equal.
-pub(crate) fn is_same_ps(a: Ps, b: Ps) -> bool
-    ensures { result ≡ true → a ≡ b }
-{
-    a == b
-}
-
-// Whether numbers that were equal so far still are, with these two.
-fn are_still_equal(so_far: bool, a: u32, b: u32) -> bool
-    ensures before { result ≡ true → so_far ≡ true }
-    ensures these { result ≡ true → a ≡ b }
-{
-    so_far && a == b
-}
-
-// Whether all special registers are seen to be equal. All are looked at, with no early end, so that several
-// are compared at once.
-fn is_same_special(a: &Special, b: &Special) -> bool
-    requires count_a { length a.now.file ≡ 256 }
-    requires count_b { length b.now.file ≡ 256 }
-    ensures { result ≡ true → a.now ≡ b.now }
-{
-    let mut equal = true;
-    for n in 0..256u32 {
-        equal = are_still_equal(equal, a.register(n as u8), b.register(n as u8));
-    }
-    if !equal {
-        return false;
-    }
-    is_same_ps(a.ps_fields(), b.ps_fields()) && a.threadptr() == b.threadptr()
-}
-
-// Whether the same registers are seen to have the same values.
+// Whether the same registers have the same values.
 fn are_same_values(a: &[Option<u32>], b: &[Option<u32>]) -> bool
-    ensures { result ≡ true → a.now ≡ b.now }
+    ensures same { result ≡ true → a.now ≡ b.now }
+    ensures equal { a.now ≡ b.now → result ≡ true }
 {
     a == b
 }
 
-// Whether the same registers are seen to hold the same marks.
+// Whether the same registers hold the same marks.
 fn are_same_marks(a: &[Option<u8>], b: &[Option<u8>]) -> bool
-    ensures { result ≡ true → a.now ≡ b.now }
+    ensures same { result ≡ true → a.now ≡ b.now }
+    ensures equal { a.now ≡ b.now → result ≡ true }
 {
     a == b
 }
 
-// Whether the same registers are seen to have no number.
+// Whether the same registers have no number.
 fn are_same_unset(a: &[bool], b: &[bool]) -> bool
-    ensures { result ≡ true → a.now ≡ b.now }
+    ensures same { result ≡ true → a.now ≡ b.now }
+    ensures equal { a.now ≡ b.now → result ≡ true }
 {
     a == b
 }
 
-// Whether both views are seen to be equal.
+// Whether both views are equal.
 fn is_same_view(a: &FrameRegisters, b: &FrameRegisters) -> bool
-    requires count_a { length a.now.control.special ≡ 256 }
-    requires count_b { length b.now.control.special ≡ 256 }
     ensures { result ≡ true → a.now ≡ b.now }
 {
     if a.pc != b.pc || a.waits != b.waits {
@@ -141,20 +108,17 @@ fn is_same_view(a: &FrameRegisters, b: &FrameRegisters) -> bool
     if !are_same_values(&a.seen, &b.seen) {
         return false;
     }
-    is_same_special(&a.special, &b.special)
+    a.special.is_same(&b.special)
 }
 
-// Whether both interrupts are seen to be equal.
+// Whether both interrupts are equal.
 fn is_same_nested(a: &Nested, b: &Nested) -> bool
     ensures { result ≡ true → a.now ≡ b.now }
 {
-    if a.pc != b.pc {
+    if a.pc != b.pc || a.ps != b.ps {
         return false;
     }
     if !are_same_values(&a.seen, &b.seen) {
-        return false;
-    }
-    if !is_same_ps(a.ps, b.ps) {
         return false;
     }
     if !are_same_marks(&a.marks, &b.marks) {
@@ -206,6 +170,9 @@ fn are_same(a: &[Caller], b: &[Caller]) -> bool
 }
 
 impl Frames {
+    ghost use Rattle.std.specs.Prelude.{◌≢◌, None, slice_set};
+    ghost use Rattle.xt_special.specs.Control.{special_of};
+    ghost use Rattle.xt_frames.specs.Nesting.{current};
     ghost use Rattle.xt_frames.specs.Walked.{bounds_of, fresh_before};
 
     /// A copy of the core as it is before the record of this number, which is counted anew from it on.
@@ -242,6 +209,40 @@ impl Frames {
         Ok(())
     }
 
+    /// Counts its records anew from the one of this number on.
+    pub fn recount(&mut self, index: u32)
+        ensures { self.new ≡ record self.old { fresh = fresh_before self.old index; next = 0 } }
+    {
+        self.fresh = self.fresh && self.next == u64::from(index);
+        self.next = 0;
+    }
+
+    /// Takes its value from a register, which has none from now on. In a nested interrupt it is one of those that
+    /// are kept.
+    ///
+    /// Conditions: the register is one of a0 to a15, and not a1.
+    pub fn forget(&mut self, number: u8)
+        requires range { number < 16 }
+        requires other { number ≢ 1 }
+        ensures { self.new ≡ record self.old { state = record self.old.state { seen = slice_set self.old.state.seen number None } } }
+    {
+        self.view.put(number, None);
+    }
+
+    /// The program counter of what the next step finds: that of a nested interrupt where there is one.
+    pub fn current_pc(&self) -> u32
+        ensures { result ≡ (current self.now.state).control.pc }
+    {
+        self.view.current_pc(&self.holes)
+    }
+
+    /// A special register of what the next step finds.
+    pub fn special(&self, number: u8) -> u32
+        ensures { result ≡ special_of (current self.now.state).control number }
+    {
+        self.view.special(number)
+    }
+
     /// What the core is judged by.
     pub fn limits(&self) -> Limits
         ensures { bounds_of result ≡ self.now.bounds }
@@ -251,6 +252,9 @@ impl Frames {
 }
 
 impl Snapshot {
+    ghost use Rattle.xt_special.specs.Control.{special_of};
+    ghost use Rattle.xt_frames.specs.Nesting.{current};
+
     /// The core that was copied, with room for all frames that can stand on its stack. The only error is
     /// running out of memory.
     pub fn frames(&self, alloc: Global) -> Result<Frames, AllocError>
@@ -270,45 +274,22 @@ impl Snapshot {
         })
     }
 
-    /// The same copy once more. The only error is running out of memory.
-    pub fn copy(&self, alloc: Global) -> Result<Snapshot, AllocError>
-        ensures { IfOk result (λ s. s ≡ self.now) }
+    /// The program counter of what the next step finds: that of a nested interrupt where there is one.
+    pub fn current_pc(&self) -> u32
+        ensures { result ≡ (current self.now.state).control.pc }
     {
-        Ok(Snapshot {
-            core: self.core,
-            limits: self.limits,
-            view: self.view,
-            holes: self.holes,
-            callers: copied(alloc, &self.callers)?,
-            fresh: self.fresh,
-        })
+        self.view.current_pc(&self.holes)
     }
 
-    /// Takes its value from a register, which has none from now on. In a nested interrupt it is one of those that
-    /// are kept.
-    ///
-    /// Conditions: the register is one of a0 to a15, and not a1.
-    pub fn forget(&mut self, number: u8)
-        requires range { number < 16 }
-        requires other { number ≢ 1 }
-        ensures { self.new ≡ record self.old { state = record self.old.state { seen = slice_set self.old.state.seen number None } } }
+    /// A special register of what the next step finds.
+    pub fn special(&self, number: u8) -> u32
+        ensures { result ≡ special_of (current self.now.state).control number }
     {
-        self.view.put(number, None);
-    }
-
-    /// What the next step finds, but for the callers: the state of a nested interrupt where there is one.
-    pub fn current(&self) -> FrameRegisters
-        ensures { result.control ≡ (current self.now.state).control }
-    {
-        self.view.current(&self.holes)
+        self.view.special(number)
     }
 
     /// Whether both are seen to be equal.
-    ///
-    /// Condition: both have 256 special registers.
     pub fn is_same(&self, other: &Snapshot) -> bool
-        requires count_a { length self.now.state.control.special ≡ 256 }
-        requires count_b { length other.now.state.control.special ≡ 256 }
         ensures { result ≡ true → self.now ≡ other.now }
     {
         if self.core != other.core || self.fresh != other.fresh {

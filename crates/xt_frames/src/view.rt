@@ -251,6 +251,23 @@ impl FrameRegisters {
         }
     }
 
+    /// The program counter of what the next step finds: that of a nested interrupt where there is one.
+    pub fn current_pc(&self, holes: &UndefinedParts) -> u32
+        ensures { (frames : List Frame) → result ≡ (current (state_at frames holes.now self.now)).control.pc }
+    {
+        match &holes.nested {
+            Some(nested) => nested.pc,
+            None => self.pc,
+        }
+    }
+
+    /// A special register.
+    pub fn special(&self, number: u8) -> u32
+        ensures { result ≡ special_of self.now.control number }
+    {
+        self.special.register(number)
+    }
+
     /// Takes what a step has left, but for PC, registers and PS.
     pub fn keep(&mut self, after: &FrameRegisters)
         ensures { (frames : List Frame) (h : UndefinedParts) → state_at frames h self.new ≡ with_kept_frame (state_at frames h self.old) (state_at frames h after.now) }

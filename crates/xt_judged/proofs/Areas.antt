@@ -1,6 +1,8 @@
 -- The save areas of frames, frame by frame from the newest on.
-use Rattle.std.proofs.Common.{◌≡◌, ℕ, zero, suc, ◌+◌, ◌-◌, ◌*◌, ◌<◌, ◌≤◌, Bool, true, false, ◌||◌, List, [], ◌∷◌, length, refl, sym, ap, ◌∙◌, arith}
+use Rattle.std.proofs.Common.{◌≡◌, ℕ, zero, suc, ◌+◌, ◌-◌, ◌*◌, ◌<◌, ◌≤◌, Bool, true, false, ltb, ◌&&◌, ◌||◌, List, [], ◌∷◌, length, refl, sym, ap, ◌∙◌, arith}
+use Rattle.std.proofs.lemmas.Bool.Decides.{nat_tests}
 use Rattle.xt_map.specs.Touching.{touches}
+use Rattle.xt_frames.specs.Breaches.{some_byte}
 use Rattle.xt_frames.specs.Frames.{Frame}
 use Rattle.xt_frames.specs.SaveAreas.{areas, covers_byte, sp_of}
 use Rattle.xt_frames.specs.Walked.{calls_in, sp_in}
@@ -68,3 +70,20 @@ found x y e = ap (λ (b : Bool). b || y) e
 
 pub not_found : (x y : Bool) → x ≡ false → (x || y) ≡ y
 not_found x y e = ap (λ (b : Bool). b || y) e
+
+-- ---- stretches of bytes
+
+-- no byte of one that has none in common with another lies in that
+pub none_common : (from size other many a : ℕ) → (ltb from (other + many) && ltb other (from + size)) ≡ false → touches from size a ≡ true → touches other many a ≡ false
+none_common from size other many a h t = grind (arith, nat_tests)
+
+first_touched : (addr n : ℕ) → touches addr (suc n) addr ≡ true
+first_touched addr n = grind (arith, nat_tests)
+
+rest_touched : (addr n a : ℕ) → touches (addr + 1) n a ≡ true → touches addr (suc n) a ≡ true
+rest_touched addr n a h = grind (arith, nat_tests)
+
+-- none of so many bytes passes a test that each of them fails
+pub none_byte : (f : ℕ → Bool) (addr size : ℕ) → ((a : ℕ) → touches addr size a ≡ true → f a ≡ false) → some_byte f addr size ≡ false
+none_byte f addr zero h = refl
+none_byte f addr (suc n) h = λ i. h addr (first_touched addr n) i || none_byte f (addr + 1) n (λ a t. h a (rest_touched addr n a t)) i

@@ -1,7 +1,7 @@
 -- Turns of two cores with their judges, as the program makes them without dead registers.
-use Rattle.std.proofs.Common.{◌≡◌, ℕ, zero, suc, Bool, true, false, not, ◌&&◌, ◌||◌, List, refl, sym, ap, ◌∙◌, subst}
+use Rattle.std.proofs.Common.{◌≡◌, ℕ, zero, suc, Bool, true, false, cond, not, ◌&&◌, ◌||◌, None, List, refl, sym, ap, ◌∙◌, subst}
 use Rattle.std.specs.Prelude.{◌==◌}
-use Rattle.std.proofs.lemmas.Bool.{and_parts, not-true}
+use Rattle.std.proofs.lemmas.Bool.{and_parts, not-true, true≢false}
 use Rattle.xt_map.specs.declared.contents.MemoryContents.{MemoryContents}
 use Rattle.xt_trace.specs.declared.record.StepRecord.{StepRecord}
 use Rattle.xt_trace.specs.Worlds.{answer}
@@ -9,6 +9,7 @@ use Rattle.xt_exec.specs.Chips.{processor}
 use Rattle.xt_exec.specs.State.{State}
 use Rattle.xt_exec.specs.Turn.{demand, turn}
 use Rattle.xt_frames.specs.SaveAreas.{Range}
+use Rattle.xt_frames.specs.Walked.{Walked}
 use Rattle.xt_outcomes.specs.Dead.{fits}
 use Rattle.xt_outcomes.specs.KeptWorlds.{moved_spot, spot_of}
 use Rattle.xt_outcomes.specs.Nexts.{misfits, side_next, spot_next}
@@ -17,13 +18,14 @@ use Rattle.xt_outcomes.specs.SpotRaces.{next_of}
 use Rattle.xt_outcomes.specs.Spots.{Side, Spot, memory_given, side_of}
 use Rattle.xt_outcomes.specs.declared.places.Place.{Place}
 use Rattle.xt_outcomes.proofs.Moving.{next_first}
-use Rattle.xt_judged.specs.Forgotten.{IsLed, IsOwnTurn, IsTurn, Leads, StandsPast, does_misfit, kept_bars}
-use Rattle.xt_judged.specs.OwnJudges.{Judge, Own, Watched, is_alone, is_over, other_range, own_in, record_in, watched_bars, with_judge}
-use Rattle.xt_judged.specs.WatchedKept.{judge_in, judge_of, own_of, watched_of}
+use Rattle.xt_judged.specs.Forgotten.{IsLed, IsOwnTurn, IsTurn, Leads, StandsPast, kept_bars}
+use Rattle.xt_judged.specs.OwnJudges.{Judge, Own, Watched, is_alone, is_over, other_range, own_in, record_in, uses_time, watched_bars, with_judge}
+use Rattle.xt_judged.specs.WatchedKept.{judge_at, judge_in, judge_of, own_at, own_of, watched_of}
 use Rattle.xt_judged.specs.declared.watched.OwnJudge.{OwnJudge}
+use Rattle.xt_judged.specs.declared.watched.Running.{Running}
 use Rattle.xt_judged.specs.declared.watched.Watched as kept
 use Rattle.xt_judged.proofs.FewerOrders.{led_first, led_more, led_over, turn_made}
-use Rattle.xt_judged.proofs.WatchedMade.{record_made}
+use Rattle.xt_judged.proofs.WatchedMade.{bars_are, record_made}
 use Rattle.xt_judged.proofs.WatchedTurns.{over_parts}
 
 no_misfit : (b f : Bool) → f ≡ true → (b && not f) ≡ false
@@ -44,8 +46,9 @@ own_kept m v zero x j e f = sym (λ i. own_of (e i) (f i))
 own_kept m v (suc c) x j e f = sym (λ i. own_of (e i) (f i))
 
 -- with a copy of the judge
-pub own_copied : (m : MemoryContents) (v : kept.Watched) (c : ℕ) (x : Side State) (j k : OwnJudge) → x ≡ side_of c (spot_of m v.world) → j ≡ judge_in c v → judge_of k ≡ judge_of j → own_in c (watched_of m v) ≡ own_of x k
-own_copied m v c x j k e f g = own_kept m v c x j e f ∙ sym (ap (λ (n : Judge). let o : Own = record { side = x; judge = n } in o) g)
+pub own_copied : (m : MemoryContents) (v : kept.Watched) (c : ℕ) (x : Side State) (j : OwnJudge) (w : Walked) (r : Running)
+    → x ≡ side_of c (spot_of m v.world) → j ≡ judge_in c v → judge_at w r ≡ judge_of j → own_in c (watched_of m v) ≡ own_at x w r
+own_copied m v c x j w r e f g = own_kept m v c x j e f ∙ sym (ap (λ (n : Judge). let o : Own = record { side = x; judge = n } in o) g)
 
 -- two cores after a turn of one
 pub own_moved : (c : ℕ) (j : Judge) (x : Side State) (n : MemoryContents) (v : Watched) → (let o : Own = record { side = x; judge = j } in own_in c (with_judge c j (moved_spot c x n v.spot) v) ≡ o)
@@ -111,6 +114,23 @@ module _ (code : ℕ → ℕ) (ms : List ℕ) (r0 r1 : Range) (timed : Bool) (ps
         led_more code ms r0 r1 timed ps c v w (with_judge c p.judge (moved_spot c p.side k v.spot) v)
         (ap (is_alone code timed ps c) own ∙ alone) (ap (λ (q : Own). misfits code ms q.side) own ∙ fit) there l
 
+-- the access of the turn of a core that makes one
+pub next_is : (code : ℕ → ℕ) (timed : Bool) (o : Own) → is_over o ≡ false → next_of code o.side ≡ demand code o.side.state
+next_is code timed o on = ap (λ (b : Bool). cond b None (demand code o.side.state)) (over_parts code timed o on).1
+
+-- such a turn fits if it is left
+pub fit_of : (code : ℕ → ℕ) (ms : List ℕ) (timed : Bool) (o : Own) → is_over o ≡ false → misfits code ms o.side ≡ false → fits code ms o.side.state ≡ true
+fit_of code ms timed o on h = by (o.side.left == 0) (fits code ms o.side.state) (over_parts code timed o on).1 h
+  where
+    by : (b f : Bool) → b ≡ false → (not b && not f) ≡ false → f ≡ true
+    by true f e k = absurd (true≢false e)
+    by false true e k = refl
+    by false false e k = absurd (true≢false k)
+
+-- a turn that uses no time and fits
+pub free_parts : (u f : Bool) → (not u && f) ≡ true → (u ≡ false) × (f ≡ true)
+free_parts u f h = let p = and_parts (not u) f h in (not-true u p.0, p.1)
+
 module _ (code : ℕ → ℕ) (ms : List ℕ) (r0 r1 : Range) (timed : Bool) (ps : List Place) (m : MemoryContents) (v : kept.Watched) (c : ℕ) where
   abbrev here : Watched
   here = watched_of m v
@@ -121,12 +141,16 @@ module _ (code : ℕ → ℕ) (ms : List ℕ) (r0 r1 : Range) (timed : Bool) (ps
   pub led_kept : (w u : kept.Watched) → watched_of m w ≡ watched_of m u → IsLed code ms r0 r1 timed ps c here (watched_of m u) → Leads code ms r0 r1 timed ps m c v w
   led_kept w u e l go = subst (IsLed code ms r0 r1 timed ps c here) (sym e) l
 
-  pub bars_used : watched_bars code timed (own_in c here) ≡ true → kept_bars code ms timed m c v ≡ true
-  bars_used e = ap (λ (b : Bool). b || (not (is_over (own_in c here)) && does_misfit code ms c here)) e
-
-  pub bars_misfit : is_over (own_in c here) ≡ false → does_misfit code ms c here ≡ true → kept_bars code ms timed m c v ≡ true
-  bars_misfit on e = (λ i. watched_bars code timed (own_in c here) || (not (on i) && e i)) ∙ or_true (watched_bars code timed (own_in c here))
+  -- the turn of a core that makes one uses time, or does not fit
+  pub barred : (o : Own) → own_in c here ≡ o → is_over o ≡ false → (not (uses_time code timed o.side o.judge.standing.frame) && fits code ms o.side.state) ≡ false
+      → kept_bars code ms timed m c v ≡ true
+  barred o e on h = by (uses_time code timed o.side o.judge.standing.frame) refl
     where
-      or_true : (b : Bool) → (b || true) ≡ true
-      or_true true = refl
-      or_true false = refl
+      all : Own → Bool
+      all p = watched_bars code timed p || (not (is_over p) && misfits code ms p.side)
+
+      by : (b : Bool) → uses_time code timed o.side o.judge.standing.frame ≡ b → kept_bars code ms timed m c v ≡ true
+      by true f = ap all e ∙ ap (λ (b : Bool). b || (not (is_over o) && misfits code ms o.side)) (bars_are code timed o on ∙ f)
+      by false f =
+          ap all e ∙ (λ i. bars_are code timed o on i || (not (on i) && misfit_is code ms r0 r1 timed ps c o on (sym (ap (λ (b : Bool). not b && fits code ms o.side.state) f) ∙ h) i))
+          ∙ ap (λ (b : Bool). b || true) f

@@ -91,6 +91,24 @@ or_none false = refl
 pub none_gone : (live : ℕ → Bool) (from a : ℕ) (old : Bool) → old ≡ (old || (touches from 0 a && not (live a)))
 none_gone live from a old = or_none old ∙ ap (λ (t : Bool). old || (t && not (live a))) (sym (touches_none from a))
 
+-- ---- so many bytes at once
+
+run_more : (e o t : Bool) → (e || (o || t)) ≡ (o || (t || e))
+run_more true true t = refl
+run_more true false true = refl
+run_more true false false = refl
+run_more false true t = refl
+run_more false false true = refl
+run_more false false false = refl
+
+pub run_on : (from k a : ℕ) (old : Bool) → (eqb (from + k) a || (old || touches from k a)) ≡ (old || touches from (k + 1) a)
+run_on from k a old =
+    run_more (eqb (from + k) a) old (touches from k a)
+    ∙ sym (ap (λ (t : Bool). old || t) (touches_more from k a ∙ ap (λ (t : Bool). touches from k a || t) (sym (one_byte (from + k) a))))
+
+pub run_none : (from a : ℕ) (old : Bool) → old ≡ (old || touches from 0 a)
+run_none from a old = or_none old ∙ ap (λ (t : Bool). old || t) (sym (touches_none from a))
+
 -- ---- both areas
 
 gather : (x t u n : Bool) → ((x || (t && n)) || (u && n)) ≡ (x || ((t || u) && n))

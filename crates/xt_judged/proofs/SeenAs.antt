@@ -69,7 +69,7 @@ module _ (code : ℕ → ℕ) (old new : Walked) (other : Option Walked) (stale 
           (λ i. record { frame = frame i; fresh = fresh i; phase = back i }),
           ap (λ (w : Walked). stale_after (is_live_in w other) (is_live_in old other) stale rec.access) (sym e),
         )
-    by_answer (Err b) h m = subst (λ (k : Option BreachKind). IsSeenAs old new other stale rec (seen k) (Err b)) (sym h.0.0) refl
+    by_answer (Err b) h m = subst (λ (k : Option BreachKind). IsSeenAs old new other stale rec (seen k) (Err b)) (sym h.0.0) (refl, h.1)
 
     pub seen_as : (r : Result Unit Breach) → IsJudged found old code 0 nested rec r new → IfOk r (λ u. Moves old.state new.state)
         → IsSeenAs old new other stale rec (seen_judged code old.bounds (standing_at old p) others stale nested rec) (passed next r)

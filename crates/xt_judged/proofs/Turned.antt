@@ -23,7 +23,7 @@ use Rattle.xt_judged.specs.declared.scene.Scene as kept
 use Rattle.xt_judged.specs.declared.scene.Standing as standing
 use Rattle.xt_judged.specs.Kept.{IsJudgedAs, IsTurn, Leads, bounds0, bounds1, other_of, own_of, scene_of, standing_of, told_of}
 use Rattle.xt_judged.specs.Lives.{AreApart}
-use Rattle.xt_judged.specs.Seen.{IsKnownPast}
+use Rattle.xt_judged.specs.Seen.{IsKnownPast, seen_by}
 use Rattle.xt_judged.specs.Stales.{among, renewed}
 
 -- ---- what no idle core has
@@ -71,15 +71,17 @@ seen_is code zero m v rec = refl
 seen_is code (suc c) m v rec = refl
 
 -- the judge sees in the record what the definition sees in the scene
-pub known_in : {E : Type 0} (code : ℕ → ℕ) (c : ℕ) (m : MemoryContents) (v : kept.Scene) (rec : StepRecord) (own : standing.Standing) (other : Walked) (stale : List ℕ) (r : Result (Result Known BreachKind) E)
-    → own ≡ own_of c v → other ≡ (other_of c v).frames → stale ≡ v.stale.value
-    → IfOk r (IsKnownPast own stale (seen_record code own.frames.bounds (standing_of own) (is_live other.bounds.range other.state) (among stale) rec))
-    → IfOk r (IsKnownPast (own_of c v) v.stale.value (seen_at code (bounds0 v) (bounds1 v) c (scene_of m v) rec))
-known_in {E} code c m v rec own other stale r e f g h =
-    let At : standing.Standing → Walked → List ℕ → Type 0 = λ x y z.
-    IfOk r (IsKnownPast x z (seen_record code x.frames.bounds (standing_of x) (is_live y.bounds.range y.state) (among z) rec)) in
-    let here = subst (λ (x : standing.Standing). At x (other_of c v).frames v.stale.value) e (subst (λ (y : Walked). At own y v.stale.value) f (subst (λ (z : List ℕ). At own other z) g h)) in
-    subst (λ (s : Seen). IfOk r (IsKnownPast (own_of c v) v.stale.value s)) (seen_is code c m v rec) here
+pub known_in : {E : Type 0} (code : ℕ → ℕ) (c : ℕ) (m : MemoryContents) (v : kept.Scene) (rec : StepRecord) (w : Walked) (own : standing.Standing) (other : Walked) (stale : List ℕ)
+    (r : Result (Result Known BreachKind) E)
+    → w ≡ own.frames → own ≡ own_of c v → other ≡ (other_of c v).frames → stale ≡ v.stale.value
+    → IfOk r (IsKnownPast w.bounds stale (seen_by code w own.phase (Some other) (among stale) rec))
+    → IfOk r (IsKnownPast (own_of c v).frames.bounds v.stale.value (seen_at code (bounds0 v) (bounds1 v) c (scene_of m v) rec))
+known_in {E} code c m v rec w own other stale r d e f g h =
+    let At : Walked → standing.Standing → Walked → List ℕ → Type 0 = λ u x y z.
+    IfOk r (IsKnownPast u.bounds z (seen_by code u x.phase (Some y) (among z) rec)) in
+    let first = subst (λ (u : Walked). At u own other stale) d h in
+    let here = subst (λ (x : standing.Standing). At x.frames x (other_of c v).frames v.stale.value) e (subst (λ (y : Walked). At own.frames own y v.stale.value) f (subst (λ (z : List ℕ). At own.frames own other z) g first)) in
+    subst (λ (s : Seen). IfOk r (IsKnownPast (own_of c v).frames.bounds v.stale.value s)) (seen_is code c m v rec) here
 
 -- ---- turns that use time
 
@@ -126,7 +128,7 @@ module _ (code : ℕ → ℕ) (timed : Bool) (m : MemoryContents) (v : kept.Scen
       record (with_standing c (standing_of k.standing) here) { spot = spot; stale = among (renewed v.stale.value k.stale); only = only_after c rec.access; breach = None }
 
   moved_is : (c : ℕ) (rec : StepRecord) (seen : Seen) (k : Known) (spot : Spot State) → here.breach ≡ None → spot ≡ spot_past (processor code) timed c here.spot
-      → IsKnownPast (own_of c v) v.stale.value seen (Ok k) → moved c spot k rec ≡ passed (processor code) timed c here rec seen
+      → IsKnownPast (own_of c v).frames.bounds v.stale.value seen (Ok k) → moved c spot k rec ≡ passed (processor code) timed c here rec seen
   moved_is zero rec (Handled st) k spot none e h = λ i. made (e i) (h.0 i) here.standing1 (h.2 i) (only_after zero rec.access) (sym none i)
   moved_is zero rec (Judges st after) k spot none e h = λ i. made (e i) (h.0 i) here.standing1 (h.2 i) (only_after zero rec.access) (sym none i)
   moved_is zero rec (Breaks kind) k spot none e h = absurd h
@@ -134,7 +136,7 @@ module _ (code : ℕ → ℕ) (timed : Bool) (m : MemoryContents) (v : kept.Scen
   moved_is (suc c) rec (Judges st after) k spot none e h = λ i. made (e i) here.standing0 (h.0 i) (h.2 i) (only_after (suc c) rec.access) (sym none i)
   moved_is (suc c) rec (Breaks kind) k spot none e h = absurd h
 
-  broken_is : (c : ℕ) (rec : StepRecord) (seen : Seen) (kind : BreachKind) → IsKnownPast (own_of c v) v.stale.value seen (Err kind)
+  broken_is : (c : ℕ) (rec : StepRecord) (seen : Seen) (kind : BreachKind) → IsKnownPast (own_of c v).frames.bounds v.stale.value seen (Err kind)
       → record here { breach = Some (record { core = c; pc = rec.pc; kind = kind }) } ≡ passed (processor code) timed c here rec seen
   broken_is c rec (Handled st) kind h = absurd h
   broken_is c rec (Judges st after) kind h = absurd h
@@ -142,19 +144,19 @@ module _ (code : ℕ → ℕ) (timed : Bool) (m : MemoryContents) (v : kept.Scen
       ap (λ (x : BreachKind). let t : Told = record { core = c; pc = rec.pc; kind = x } in made here.spot here.standing0 here.standing1 here.stale here.only (Some t)) h
 
   pub past_known : (c : ℕ) (rec : StepRecord) (k : Known) (spot : Spot State) → is_idle c here ≡ false → rec ≡ record_of (processor code) c here
-      → spot ≡ spot_past (processor code) timed c here.spot → IsKnownPast (own_of c v) v.stale.value (seen_at code (bounds0 v) (bounds1 v) c here rec) (Ok k)
+      → spot ≡ spot_past (processor code) timed c here.spot → IsKnownPast (own_of c v).frames.bounds v.stale.value (seen_at code (bounds0 v) (bounds1 v) c here rec) (Ok k)
       → moved c spot k rec ≡ past c
   past_known c rec k spot idle is e h =
       moved_is c rec (seen_at code (bounds0 v) (bounds1 v) c here rec) k spot (no_breach c here idle) e h ∙ past_other c rec idle is
 
   pub past_broken : (c : ℕ) (rec : StepRecord) (kind : BreachKind) → is_idle c here ≡ false → rec ≡ record_of (processor code) c here
-      → IsKnownPast (own_of c v) v.stale.value (seen_at code (bounds0 v) (bounds1 v) c here rec) (Err kind)
+      → IsKnownPast (own_of c v).frames.bounds v.stale.value (seen_at code (bounds0 v) (bounds1 v) c here rec) (Err kind)
       → record here { breach = Some (record { core = c; pc = rec.pc; kind = kind }) } ≡ past c
   past_broken c rec kind idle is h =
       broken_is c rec (seen_at code (bounds0 v) (bounds1 v) c here rec) kind h ∙ past_other c rec idle is
 
 -- the core is judged by the same after its turn
-pub same_bounds : (own : standing.Standing) (stale : List ℕ) (seen : Seen) (k : Known) → IsKnownPast own stale seen (Ok k) → k.standing.frames.bounds ≡ own.frames.bounds
+pub same_bounds : (own : standing.Standing) (stale : List ℕ) (seen : Seen) (k : Known) → IsKnownPast own.frames.bounds stale seen (Ok k) → k.standing.frames.bounds ≡ own.frames.bounds
 same_bounds own stale (Handled st) k h = h.1
 same_bounds own stale (Judges st after) k h = h.1
 same_bounds own stale (Breaks kind) k h = absurd h

@@ -8,11 +8,12 @@ use Rattle.xt_trace.specs.Worlds.{answer}
 use Rattle.xt_exec.specs.Chips.{processor}
 use Rattle.xt_exec.specs.State.{State}
 use Rattle.xt_exec.specs.Turn.{demand, turn}
+use Rattle.xt_frames.specs.Frames.{FrameState}
 use Rattle.xt_outcomes.specs.Places.{is_own_access}
 use Rattle.xt_outcomes.specs.SpotRaces.{next_of}
 use Rattle.xt_outcomes.specs.Spots.{Side, Spot, side_bars, side_of}
 use Rattle.xt_outcomes.specs.declared.places.Place.{Place}
-use Rattle.xt_judged.specs.OwnJudges.{Judge, Own, Watched, goes, is_alone, is_over, record_in, watched_bars, with_judge}
+use Rattle.xt_judged.specs.OwnJudges.{Judge, Own, Watched, goes, is_alone, is_over, record_in, uses_time, watched_bars, with_judge}
 use Rattle.xt_judged.specs.Timeless.{frame_uses_time}
 use Rattle.xt_judged.specs.WatchedKept.{judge_of, watched_of}
 use Rattle.xt_judged.specs.declared.watched.Watched as kept
@@ -35,38 +36,19 @@ pub moved_one : (m : MemoryContents) (v : kept.Watched) (c : ℕ) (j : Judge) (p
 moved_one m v zero j p h = absurd (omega (arith, h))
 moved_one m v (suc c) j p h = refl
 
--- ---- whether a core is over, by its judge and by its turns
-
-pub over_judge : (o : Own) → goes o.judge.fate ≡ false → true ≡ is_over o
-over_judge o e = sym (ap (λ (b : Bool). not b || (o.side.left == 0)) e)
-
-pub over_left : (o : Own) (b : Bool) → goes o.judge.fate ≡ true → b ≡ (o.side.left == 0) → b ≡ is_over o
-over_left o b e f = f ∙ sym (ap (λ (t : Bool). not t || (o.side.left == 0)) e)
-
 -- ---- turns that use time
 
+module _ (code : ℕ → ℕ) (timed : Bool) (s : Side State) (f : FrameState) where
+  pub used_side : side_bars code timed s ≡ true → true ≡ uses_time code timed s f
+  used_side e = sym (ap (λ (b : Bool). b || (not timed && frame_uses_time code f)) e)
+
+  pub used_frame : (b : Bool) → side_bars code timed s ≡ false → b ≡ (not timed && frame_uses_time code f) → b ≡ uses_time code timed s f
+  used_frame b e g = g ∙ sym (ap (λ (t : Bool). t || (not timed && frame_uses_time code f)) e)
+
 module _ (code : ℕ → ℕ) (timed : Bool) (o : Own) where
-  abbrev used : Bool
-  used = side_bars code timed o.side || (not timed && frame_uses_time code o.judge.standing.frame)
+  -- of a core that makes a turn
+  pub bars_are : is_over o ≡ false → watched_bars code timed o ≡ uses_time code timed o.side o.judge.standing.frame
+  bars_are e = ap (λ (b : Bool). not b && uses_time code timed o.side o.judge.standing.frame) e
 
-  pub bars_over : is_over o ≡ true → false ≡ watched_bars code timed o
-  bars_over e = sym (ap (λ (b : Bool). not b && used) e)
-
-  pub bars_made : (b : Bool) → is_over o ≡ false → b ≡ used → b ≡ watched_bars code timed o
-  bars_made b e f = f ∙ sym (ap (λ (t : Bool). not t && used) e)
-
-  pub used_side : side_bars code timed o.side ≡ true → true ≡ used
-  used_side e = sym (ap (λ (b : Bool). b || (not timed && frame_uses_time code o.judge.standing.frame)) e)
-
-  pub used_frame : (b : Bool) → side_bars code timed o.side ≡ false → b ≡ (not timed && frame_uses_time code o.judge.standing.frame) → b ≡ used
-  used_frame b e f = f ∙ sym (ap (λ (t : Bool). t || (not timed && frame_uses_time code o.judge.standing.frame)) e)
-
-  module _ (ps : List Place) (c : ℕ) where
-    pub alone_over : is_over o ≡ true → false ≡ is_alone code timed ps c o
-    alone_over e = sym (ap (λ (b : Bool). not b && (not (watched_bars code timed o) && is_own_access ps c (next_of code o.side))) e)
-
-    pub alone_bars : is_over o ≡ false → watched_bars code timed o ≡ true → false ≡ is_alone code timed ps c o
-    alone_bars e f = sym (λ i. not (e i) && (not (f i) && is_own_access ps c (next_of code o.side)))
-
-    pub alone_own : (b : Bool) → is_over o ≡ false → watched_bars code timed o ≡ false → b ≡ is_own_access ps c (next_of code o.side) → b ≡ is_alone code timed ps c o
-    alone_own b e f g = g ∙ sym (λ i. not (e i) && (not (f i) && is_own_access ps c (next_of code o.side)))
+  pub alone_is : (ps : List Place) (c : ℕ) → is_over o ≡ false → uses_time code timed o.side o.judge.standing.frame ≡ false → is_own_access ps c (next_of code o.side) ≡ true → is_alone code timed ps c o ≡ true
+  alone_is ps c e f g = λ i. not (e i) && (not ((bars_are e ∙ f) i) && g i)

@@ -144,12 +144,14 @@ abbrev pub watched_past :
 watched_past P code r0 r1 timed c v =
     if is_over (own_in c v) then v else turned P code r0 r1 timed c v
 
--- where it is not timed, a turn that follows uses time, or its step of the frame machine does
+-- where it is not timed, the next turn uses time, or its step of the frame machine does
+abbrev pub uses_time : (code : ℕ → ℕ) (timed : Bool) → Side State → FrameState → Bool
+uses_time code timed s f = side_bars code timed s || (not timed && frame_uses_time code f)
+
+-- a turn that follows uses time
 abbrev pub watched_bars : (code : ℕ → ℕ) (timed : Bool) → Own → Bool
 watched_bars code timed o =
-    not (is_over o)
-    && (side_bars code timed o.side
-    || (not timed && frame_uses_time code o.judge.standing.frame))
+    not (is_over o) && uses_time code timed o.side o.judge.standing.frame
 
 -- a turn that follows uses no time and meets nothing of the other core
 abbrev pub is_alone : (code : ℕ → ℕ) (timed : Bool) → List Place → ℕ → Own → Bool

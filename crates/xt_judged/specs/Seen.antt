@@ -4,14 +4,13 @@ use Rattle.std.specs.Prelude.{◌≡◌, ℕ, Bool, true, false, Option, Result,
 use Rattle.xt_trace.specs.declared.record.StepRecord.{StepRecord}
 use Rattle.xt_frames.specs.declared.kinds.Breach.{Breach}
 use Rattle.xt_frames.specs.declared.kinds.BreachKind.{BreachKind}
-use Rattle.xt_frames.specs.Breaches.{stale_after}
+use Rattle.xt_frames.specs.Breaches.{Bounds, stale_after}
 use Rattle.xt_frames.specs.declared.kinds.HandlerPhase.{HandlerPhase}
 use Rattle.xt_frames.specs.Judging.{Standing, Seen, Handled, Judges, Breaks, seen_record}
 use Rattle.xt_frames.specs.Stacks.{Moves}
 use Rattle.xt_frames.specs.Walked.{Walked, fresh_before}
 use Rattle.xt_judged.specs.declared.record.Beside.{Beside}
 use Rattle.xt_judged.specs.declared.record.Known.{Known}
-use Rattle.xt_judged.specs.declared.scene.Standing as kept
 use Rattle.xt_judged.specs.declared.seeing.Passed.{Passed}
 use Rattle.xt_judged.specs.Kept.{standing_of}
 use Rattle.xt_judged.specs.Lives.{AreApart, is_live_in, others_live}
@@ -39,19 +38,19 @@ IsSeenAs old new other stale rec (Judges st after) (Ok p) =
     × (length new.state.control.special ≡ length old.state.control.special)
     × (st ≡ standing_at new p.phase)
     × (after ≡ stale_after (is_live_in new other) (is_live_in old other) stale rec.access)
-IsSeenAs old new other stale rec (Breaks kind) (Err b) = b.kind ≡ kind
+IsSeenAs old new other stale rec (Breaks kind) (Err b) = (b.kind ≡ kind) × (new ≡ old)
 IsSeenAs old new other stale rec _ _ = ⊥
 
 -- what is known of the core and of the stale bytes past the record, or the breach
-abbrev pub IsKnownPast : kept.Standing → List ℕ → Seen → Result Known BreachKind → Type 0
-IsKnownPast own stale (Handled st) (Ok k) =
-    (standing_of k.standing ≡ st) × (k.standing.frames.bounds ≡ own.frames.bounds)
+abbrev pub IsKnownPast : Bounds → List ℕ → Seen → Result Known BreachKind → Type 0
+IsKnownPast b stale (Handled st) (Ok k) =
+    (standing_of k.standing ≡ st) × (k.standing.frames.bounds ≡ b)
     × (among (renewed stale k.stale) ≡ among stale)
-IsKnownPast own stale (Judges st after) (Ok k) =
-    (standing_of k.standing ≡ st) × (k.standing.frames.bounds ≡ own.frames.bounds)
+IsKnownPast b stale (Judges st after) (Ok k) =
+    (standing_of k.standing ≡ st) × (k.standing.frames.bounds ≡ b)
     × (among (renewed stale k.stale) ≡ after)
-IsKnownPast own stale (Breaks kind) (Err k) = k ≡ kind
-IsKnownPast own stale _ _ = ⊥
+IsKnownPast b stale (Breaks kind) (Err k) = k ≡ kind
+IsKnownPast b stale _ _ = ⊥
 
 -- then still no stale byte lies in a live save area
 abbrev pub IsApartPast : Option Walked → List ℕ → Result Known BreachKind → Type 0
@@ -67,10 +66,15 @@ pub record IsCopied (new : Walked) (b : Beside) (k : Known) : Type 0 where
 
 -- the same, where the core has the frames `new` past the record, of which a copy is known then
 abbrev pub IsKnownAfter :
-    kept.Standing → List ℕ → Walked → Seen → Result Beside BreachKind → Type 0
-IsKnownAfter own stale new seen (Ok b) =
-    (k : Known) → IsCopied new b k → IsKnownPast own stale seen (Ok k)
-IsKnownAfter own stale new seen (Err kind) = IsKnownPast own stale seen (Err kind)
+    Bounds → List ℕ → Walked → Seen → Result Beside BreachKind → Type 0
+IsKnownAfter bounds stale new seen (Ok b) =
+    (k : Known) → IsCopied new b k → IsKnownPast bounds stale seen (Ok k)
+IsKnownAfter bounds stale new seen (Err kind) = IsKnownPast bounds stale seen (Err kind)
+
+-- after a breach the frames are as before
+abbrev pub StaysAfter : Walked → Walked → Result Beside BreachKind → Type 0
+StaysAfter old new (Ok b) = Unit {0}
+StaysAfter old new (Err kind) = new ≡ old
 
 abbrev pub IsApartAfter : Option Walked → List ℕ → Walked → Result Beside BreachKind → Type 0
 IsApartAfter other stale new (Ok b) =

@@ -1,13 +1,13 @@
 //! Which bytes an access touches: live ones and stale ones.
-ghost use Rattle.std.specs.Prelude.{◌≡◌, ◌+◌, ◌<◌, ◌^◌, option_copied};
-ghost use Rattle.xt_map.specs.Touching.{is_store};
+ghost use Rattle.std.specs.Prelude.{◌≡◌, ◌+◌, ◌<◌, ◌^◌, ℕ, true, false, option_copied};
+ghost use Rattle.xt_map.specs.Touching.{is_store, touches};
 ghost use Rattle.xt_frames.specs.Breaches.{loads_stale, some_byte, stores_at, touches_save_area};
 ghost use Rattle.xt_discipline.specs.Sides.{in_areas};
 ghost use Rattle.xt_judged.specs.Lives.{is_live_in};
 ghost use Rattle.xt_judged.specs.Past.{in_call, is_spared};
 ghost use Rattle.xt_judged.specs.Stales.{among};
 
-use crate::live::{is_live, touches};
+use crate::live::{is_live, may_be_live, touches};
 use crate::stale::Stale;
 use xt_discipline::Areas;
 use xt_frames::Frames;
@@ -26,11 +26,29 @@ pub fn is_live_in(own: &Frames, other: Option<&Frames>, addr: u64) -> bool
     }
 }
 
+/// Whether some of so many bytes may lie in a live save area of either core, or of one, if the other is not
+/// looked at; false: none does.
+pub fn may_be_live_in(own: &Frames, other: Option<&Frames>, from: u64, size: u64) -> bool
+    requires { from + size < 2 ^ 64 }
+    ensures { result ≡ false → (a : ℕ) → touches from size a ≡ true → is_live_in own.now (option_copied other.entry) a ≡ false }
+{
+    if may_be_live(own, from, size) {
+        return true;
+    }
+    match other {
+        Some(other) => may_be_live(other, from, size),
+        None => false,
+    }
+}
+
 // Whether one of these bytes is live.
 fn some_live(own: &Frames, other: Option<&Frames>, addr: u64, size: u64) -> bool
     requires { addr + size < 2 ^ 64 }
     ensures { result ≡ some_byte (is_live_in own.now (option_copied other.entry)) addr size }
 {
+    if !may_be_live_in(own, other, addr, size) {
+        return false;
+    }
     for k in 0..size {
         if is_live_in(own, other, addr + k) {
             return true;

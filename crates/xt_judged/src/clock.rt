@@ -1,18 +1,12 @@
 //! Whether a step of the frame machine uses time.
-ghost use Rattle.std.specs.Prelude.{◌≡◌, ◌||◌};
+ghost use Rattle.std.specs.Prelude.{◌≡◌, ◌==◌, ◌||◌, not, bit_and};
 ghost use Rattle.xt_map.specs.Memory.{constant_byte};
-ghost use Rattle.xt_special.specs.Control.{special_of};
-ghost use Rattle.xt_special.specs.Numbers as numbers;
 ghost use Rattle.xt_map.specs.Fetching.{fetch_at};
-ghost use Rattle.xt_timeless.specs.Time.{fetches_time};
-ghost use Rattle.xt_judged.specs.Timeless.{frame_uses_time};
+ghost use Rattle.xt_timeless.specs.Time.{fetches_time, timer_bits};
 
 use xt_codec::{Fetch, instruction_at};
-use xt_frames::{FrameRegisters, Snapshot};
-use xt_isa::Insn;
-use xt_isa::system::{SpecialName, System};
+use xt_frames::Frames;
 use xt_map::Constants;
-use xt_special::number;
 use xt_timeless::reads_time;
 
 // The bits of INTERRUPT that the timers set: 6, 15 and 16.
@@ -22,7 +16,7 @@ const TIMER_BITS: u32 = 0x1_8040;
 fn fetches_time(code: &Constants, pc: u32) -> bool
     ensures { result ≡ fetches_time (fetch_at (constant_byte code.now) pc) }
 {
-    match instruction_at::<Snapshot>(code, pc) {
+    match instruction_at::<Frames>(code, pc) {
         Fetch::Insn(insn, _) => reads_time(insn),
         Fetch::Fails(_) => false,
         Fetch::Nothing => false,
@@ -36,19 +30,11 @@ fn is_either(a: bool, b: bool) -> bool
     a || b
 }
 
-// INTENABLE.
-#[tactic(auto, unfolding(xt_rows::specs::Operands::special_reads))]
-fn intenable(view: &FrameRegisters) -> u32
-    ensures { result ≡ special_of view.now.control numbers.intenable }
+/// Whether a core's next step of the frame machine uses time, by INTENABLE and the program counter that it
+/// finds.
+pub fn uses_time(code: &Constants, intenable: u32, pc: u32) -> bool
+    ensures { result ≡ (not (bit_and intenable timer_bits == 0) || fetches_time (fetch_at (constant_byte code.now) pc)) }
 {
-    view.special_read(Insn::System(System::Special(SpecialName::Rsr, 0, number::INTENABLE)))
-}
-
-/// Whether a core's next step of the frame machine uses time.
-pub fn uses_time(code: &Constants, frames: &Snapshot) -> bool
-    ensures { result ≡ frame_uses_time (constant_byte code.now) frames.now.state }
-{
-    let view = frames.current();
-    let enabled = intenable(&view) & TIMER_BITS;
-    is_either(enabled != 0, fetches_time(code, view.pc()))
+    let enabled = intenable & TIMER_BITS;
+    is_either(enabled != 0, fetches_time(code, pc))
 }

@@ -9,7 +9,7 @@ ghost use Rattle.xt_judged.specs.Lives.{AreApart, is_live_in};
 ghost use Rattle.xt_judged.specs.Past.{HasRoom, IsBefore, IsOnStack};
 ghost use Rattle.xt_judged.specs.Stales.{among, renewed};
 
-use crate::bytes::is_live_in;
+use crate::bytes::{is_live_in, may_be_live_in};
 use crate::stale::Stale;
 use std::alloc::{AllocError, Global};
 use xt_discipline::{Areas, areas, newest};
@@ -65,6 +65,11 @@ fn add_gone(
     requires { 0 < size → from + size ≤ 2 ^ 32 }
     ensures { OnOk result ((a : ℕ) → among stale.new a ≡ (among stale.old a || (touches from size a && not (is_live_in own.now (option_copied other.entry) a)))) }
 {
+    let start = u64::from(from);
+    if !stale.holds_some(from, size) && !may_be_live_in(own, other, start, u64::from(size)) {
+        stale.add_run(from, size)?;
+        return Ok(());
+    }
     for k in 0..size {
         add_one(stale, own, other, from + k)?;
     }

@@ -23,6 +23,7 @@ use std::rc::Rc;
 use xt_frames::{BreachKind, Frames};
 use xt_outcomes::{Shared, Shelf, Side, Timed};
 use xt_search::{Changes, Machine};
+use xt_special::number;
 use xt_trace::{Options, StepRecord};
 
 /// The machine of an image, whose turns the judge sees.
@@ -170,7 +171,7 @@ impl<'a> Judging<'a> {
         core: u8,
         rec: &StepRecord,
     ) -> Result<Result<Known, BreachKind>, AllocError>
-        ensures known { (m : MemoryContents) → IfOk result (IsKnownPast (own_of core scene.now) scene.now.stale.value (seen_at (constant_byte self.now.timed.code) (bounds0 scene.now) (bounds1 scene.now) core (scene_of m scene.now) rec.now)) }
+        ensures known { (m : MemoryContents) → IfOk result (IsKnownPast (own_of core scene.now).frames.bounds scene.now.stale.value (seen_at (constant_byte self.now.timed.code) (bounds0 scene.now) (bounds1 scene.now) core (scene_of m scene.now) rec.now)) }
         ensures apart { IfOk result (IsApartPast (Some (other_of core scene.now).frames) scene.now.stale.value) }
     {
         let own = scene.own(core);
@@ -250,7 +251,12 @@ impl<'a> Judging<'a> {
         if self.timed.timed {
             return false;
         }
-        uses_time(&self.timed.code, &scene.own(core).frames)
+        let frames = &scene.own(core).frames;
+        uses_time(
+            &self.timed.code,
+            frames.special(number::INTENABLE),
+            frames.current_pc(),
+        )
     }
 
     // Whether a core goes on alone, by a turn that uses no time.

@@ -39,6 +39,7 @@ pub(crate) fn is_same_world(a: &World, b: &World) -> bool
 }
 
 /// The world in which a core has come so far. The only error is running out of memory.
+#[inline(always)]
 pub(crate) fn moved_world(
     alloc: Global,
     world: &World,

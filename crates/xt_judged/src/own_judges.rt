@@ -1,24 +1,24 @@
 //! The judge of one core past a record, and two cores with their judges past a turn.
-ghost use Rattle.std.specs.Prelude.{◌≡◌, ◌<◌, None, true, false, IfOk, OnOk};
+ghost use Rattle.std.specs.Prelude.{◌≡◌, ◌<◌, ◌==◌, ◌||◌, not, None, true, false, IfOk, OnOk};
 ghost use Rattle.xt_map.specs.Memory.{constant_byte};
 ghost use Rattle.xt_map.specs.declared.contents.MemoryContents.{MemoryContents};
 ghost use Rattle.xt_search.specs.Changed.{contents_of};
 ghost use Rattle.xt_outcomes.specs.KeptWorlds.{moved_spot, spot_of};
 ghost use Rattle.xt_judged.specs.Lives.{AreApart};
 ghost use Rattle.xt_judged.specs.Forgotten.{IsForgotten, IsOuter, StandsPast};
-ghost use Rattle.xt_judged.specs.OwnJudges.{goes, is_over, judge_past, range_of, with_judge};
+ghost use Rattle.xt_judged.specs.OwnJudges.{goes, judge_past, range_of, with_judge};
 ghost use Rattle.xt_judged.specs.Past.{IsOnStack};
 ghost use Rattle.xt_judged.specs.Stales.{renewed};
-ghost use Rattle.xt_judged.specs.WatchedKept.{judge_in, judge_of, own_of, watched_of};
+ghost use Rattle.xt_judged.specs.WatchedKept.{IsRunning, judge_at, judge_in, judge_of, watched_of};
 
 use crate::moved::{is_same_world, moved_world, same_world};
 use crate::record::{Beside, see_beside};
 use crate::scene::{Shown, Standing};
 use crate::stale::Stale;
-use crate::watched::{Fate, OwnJudge, Watched, comes_to};
+use crate::watched::{Fate, OwnJudge, Running, Watched, comes_to};
 use std::alloc::{AllocError, Global};
 use std::rc::Rc;
-use xt_frames::{Frames, HandlerPhase, Snapshot, is_nesting};
+use xt_frames::{Frames, HandlerPhase, is_nesting};
 use xt_map::Constants;
 use xt_outcomes::{Dead, Part, Side};
 use xt_search::Changes;
@@ -37,7 +37,7 @@ fn is_nested(phase: HandlerPhase, rec: &StepRecord) -> bool
 }
 
 // Takes its value from a register, if it is one of a mask and not the stack pointer.
-fn forget_one(frames: &mut Snapshot, mask: u16, number: u8)
+fn forget_one(frames: &mut Frames, mask: u16, number: u8)
     requires { number < 16 }
     ensures { IsForgotten frames.old frames.new }
 {
@@ -51,7 +51,7 @@ fn forget_one(frames: &mut Snapshot, mask: u16, number: u8)
 }
 
 // Takes their values from the registers of a mask, except from the stack pointer, outside of handler steps.
-fn forget_dead(frames: &mut Snapshot, phase: HandlerPhase, mask: u16)
+fn forget_dead(frames: &mut Frames, phase: HandlerPhase, mask: u16)
     ensures { IsForgotten frames.old frames.new }
 {
     if !matches!(phase, HandlerPhase::Outside) {
@@ -73,28 +73,49 @@ fn renew(stale: &mut Stale, new: Option<Stale>)
 }
 
 impl OwnJudge {
-    /// The same judge once more. The only error is running out of memory.
+    /// The judge as its core begins to make turns: these become the frames of the core. The only error is
+    /// running out of memory.
     ///
     /// Condition: no byte that is stale for the core is live for it.
-    pub fn copy(&self, alloc: Global) -> Result<OwnJudge, AllocError>
+    pub fn begin(&self, alloc: Global, frames: &mut Frames) -> Result<Running, AllocError>
         requires { AreApart self.now.standing.frames None self.now.stale }
-        ensures judge { IfOk result (λ j. judge_of j ≡ judge_of self.now) }
-        ensures apart { IfOk result (λ j. AreApart j.standing.frames None j.stale) }
+        ensures judge { IfOk result (λ r. judge_at frames.new r ≡ judge_of self.now) }
+        ensures running { IfOk result (λ r. IsRunning frames.new r) }
     {
-        Ok(OwnJudge {
-            standing: Standing {
-                frames: self.standing.frames.copy(alloc)?,
-                phase: self.standing.phase,
-            },
+        frames.reload(alloc, &self.standing.frames)?;
+        Ok(Running {
+            phase: self.standing.phase,
             stale: self.stale.copy(alloc)?,
             fate: self.fate,
         })
     }
+}
 
-    /// Becomes the judge past a record of its core, where the other core has this stack. The only error is
-    /// running out of memory.
-    ///
-    /// Condition: no byte that is stale for the core is live for it.
+impl Running {
+    /// The judge as it is kept, of the core with these frames. The only error is running out of memory.
+    #[inline(always)]
+    pub fn kept(self, alloc: Global, frames: &Frames) -> Result<Rc<OwnJudge>, AllocError>
+        requires { IsRunning frames.now self }
+        ensures judge { IfOk result (λ j. judge_of j.value ≡ judge_at frames.now self) }
+        ensures apart { IfOk result (λ j. AreApart j.value.standing.frames None j.value.stale) }
+    {
+        let Running { phase, stale, fate } = self;
+        let judge = Rc::new(
+            alloc,
+            OwnJudge {
+                standing: Standing {
+                    frames: frames.snapshot(alloc, 0)?,
+                    phase,
+                },
+                stale,
+                fate,
+            },
+        )?;
+        Ok(judge)
+    }
+
+    // Becomes the judge past a record of its core, with the frames of that, where the other core has this
+    // stack. The only error is running out of memory.
     fn past(
         &mut self,
         alloc: Global,
@@ -104,21 +125,20 @@ impl OwnJudge {
         core: u8,
         rec: &StepRecord,
     ) -> Result<(), AllocError>
-        requires { AreApart self.old.standing.frames None self.old.stale }
-        ensures judge { OnOk result (judge_of self.new ≡ judge_past (constant_byte code.now) (range_of other) core (judge_of self.old) rec.now) }
-        ensures apart { OnOk result (AreApart self.new.standing.frames None self.new.stale) }
-        ensures stack { OnOk result (goes self.new.fate ≡ true → IsOnStack self.old.standing.frames × IsOnStack self.new.standing.frames) }
+        requires { IsRunning frames.old self.old }
+        ensures judge { OnOk result (judge_at frames.new self.new ≡ judge_past (constant_byte code.now) (range_of other) core (judge_at frames.old self.old) rec.now) }
+        ensures running { OnOk result (IsRunning frames.new self.new) }
+        ensures stack { OnOk result (goes self.new.fate ≡ true → IsOnStack frames.old × IsOnStack frames.new) }
     {
         if comes_to(other, rec.access) {
             self.fate = Fate::Crossed;
             return Ok(());
         }
-        frames.reload(alloc, &self.standing.frames)?;
-        match see_beside(alloc, code, &self.standing, frames, None, &self.stale, rec)? {
+        match see_beside(alloc, code, self.phase, frames, None, &self.stale, rec)? {
             Ok(beside) => {
                 let Beside { phase, stale } = beside;
-                self.standing.frames = frames.snapshot(alloc, 1)?;
-                self.standing.phase = phase;
+                frames.recount(1);
+                self.phase = phase;
                 renew(&mut self.stale, stale);
                 Ok(())
             }
@@ -130,12 +150,10 @@ impl OwnJudge {
         }
     }
 
-    /// Becomes the judge past a record of its core, which leads to this program counter, without the registers
-    /// that are dead there. If some register is dead, it gives up at an interrupt in handler steps. The only
-    /// error is running out of memory.
-    ///
-    /// Condition: no byte that is stale for the core is live for it.
-    pub fn kept_past(
+    /// Becomes the judge past a record of its core, which leads to this program counter, with the frames of
+    /// the core, without the registers that are dead there. If some register is dead, it gives up at an
+    /// interrupt in handler steps. The only error is running out of memory.
+    pub fn go_past(
         &mut self,
         alloc: Global,
         code: &Constants,
@@ -146,29 +164,28 @@ impl OwnJudge {
         dead: &Dead,
         pc: u32,
     ) -> Result<(), AllocError>
-        requires { AreApart self.old.standing.frames None self.old.stale }
-        ensures stands { OnOk result (StandsPast (constant_byte code.now) dead.now.masks.items (range_of other) core rec.now (judge_of self.old) (judge_of self.new)) }
-        ensures apart { OnOk result (AreApart self.new.standing.frames None self.new.stale) }
+        requires { IsRunning frames.old self.old }
+        ensures stands { OnOk result (StandsPast (constant_byte code.now) dead.now.masks.items (range_of other) core rec.now (judge_at frames.old self.old) (judge_at frames.new self.new)) }
+        ensures running { OnOk result (IsRunning frames.new self.new) }
     {
         if dead.masks.is_empty() {
             return self.past(alloc, code, frames, other, core, rec);
         }
-        if is_nested(self.standing.phase, rec) {
+        if is_nested(self.phase, rec) {
             self.fate = Fate::Crossed;
             return Ok(());
         }
         self.past(alloc, code, frames, other, core, rec)?;
-        let phase = self.standing.phase;
-        forget_dead(&mut self.standing.frames, phase, dead.at(pc));
+        forget_dead(frames, self.phase, dead.at(pc));
         Ok(())
     }
 }
 
-/// Whether a core with this judge makes no turn: the judge has come to an end, or the core has ended itself.
-pub fn is_over(side: &Side, judge: &OwnJudge) -> bool
-    ensures { result ≡ is_over (own_of side.now judge.now) }
+/// Whether a core makes no turn: its judge has come to an end, or it has ended itself.
+pub fn is_over(side: &Side, fate: Fate) -> bool
+    ensures { result ≡ (not (goes fate) || (side.now.left == 0)) }
 {
-    if !judge.fate.goes() {
+    if !fate.goes() {
         return true;
     }
     side.left() == 0
@@ -202,20 +219,20 @@ impl Watched {
     /// judge. The only error is running out of memory.
     ///
     /// Condition: no byte that is stale for the core is live for it.
+    #[inline(always)]
     pub fn moved(
         &self,
         alloc: Global,
         core: u8,
         side: Side,
         changes: Changes,
-        judge: OwnJudge,
+        judge: Rc<OwnJudge>,
         turns: u32,
     ) -> Result<Watched, AllocError>
-        requires { AreApart judge.standing.frames None judge.stale }
-        ensures { IfOk result (λ w. (m : MemoryContents) → watched_of m w ≡ with_judge core (judge_of judge) (moved_spot core side (contents_of m changes) (spot_of m self.now.world)) (watched_of m self.now)) }
+        requires { AreApart judge.value.standing.frames None judge.value.stale }
+        ensures { IfOk result (λ w. (m : MemoryContents) → watched_of m w ≡ with_judge core (judge_of judge.value) (moved_spot core side (contents_of m changes) (spot_of m self.now.world)) (watched_of m self.now)) }
     {
         let world = moved_world(alloc, &self.world, core, side, changes)?;
-        let judge = Rc::new(alloc, judge)?;
         if core == 0 {
             Ok(Watched {
                 world,

@@ -2,13 +2,11 @@
 ghost use Rattle.std.specs.Prelude.{◌≡◌, ℕ, true, false, None, IfOk, OnOk, length, option_copied};
 ghost use Rattle.xt_map.specs.Memory.{constant_byte};
 ghost use Rattle.xt_frames.specs.Breaches.{stale_after};
-ghost use Rattle.xt_frames.specs.Judging.{seen_record};
 ghost use Rattle.xt_frames.specs.Stacks.{Moves};
 ghost use Rattle.xt_frames.specs.Walked.{Walked};
-ghost use Rattle.xt_judged.specs.Kept.{standing_of};
-ghost use Rattle.xt_judged.specs.Lives.{AreApart, is_live_in, others_live};
+ghost use Rattle.xt_judged.specs.Lives.{AreApart, is_live_in};
 ghost use Rattle.xt_judged.specs.Past.{HasRoom, IsBefore, IsOnStack};
-ghost use Rattle.xt_judged.specs.Seen.{IsApartAfter, IsApartPast, IsKnownAfter, IsKnownPast};
+ghost use Rattle.xt_judged.specs.Seen.{IsApartAfter, IsApartPast, IsKnownAfter, IsKnownPast, StaysAfter, seen_by};
 ghost use Rattle.xt_judged.specs.Stales.{among, renewed};
 
 use crate::gone::{Before, kept_before, stale_past};
@@ -63,26 +61,29 @@ fn stale_after(
 /// Sees a record of a core, whose frames become those past it, beside the other core if that is given: a
 /// breach, or what else is known past it. The only error is running out of memory.
 ///
-/// Conditions: no stale byte lies in a live save area of either core, and the frames are those of the core.
+/// Conditions: no stale byte lies in a live save area of either core, the frames count their records from this
+/// one on, and they have all special registers.
 pub fn see_beside(
     alloc: Global,
     code: &Constants,
-    own: &Standing,
+    phase: HandlerPhase,
     frames: &mut Frames,
     other: Option<&Frames>,
     stale: &Stale,
     rec: &StepRecord,
 ) -> Result<Result<Beside, BreachKind>, AllocError>
-    requires apart { AreApart own.now.frames (option_copied other) stale.now }
-    requires same { frames.old ≡ own.now.frames }
-    ensures known { IfOk result (IsKnownAfter own.now stale.now frames.new (seen_record (constant_byte code.now) own.now.frames.bounds (standing_of own.now) (others_live (option_copied other.entry)) (among stale.now) rec.now)) }
+    requires apart { AreApart frames.old (option_copied other) stale.now }
+    requires first { frames.old.next ≡ 0 }
+    requires all { length frames.old.state.control.special ≡ 256 }
+    ensures known { IfOk result (IsKnownAfter frames.old.bounds stale.now frames.new (seen_by (constant_byte code.now) frames.old phase (option_copied other.entry) (among stale.now) rec.now)) }
     ensures apart { IfOk result (IsApartAfter (option_copied other.entry) stale.now frames.new) }
-    ensures before { OnOk result (IsOnStack own.now.frames) }
+    ensures before { OnOk result (IsOnStack frames.old) }
     ensures stack { IfOk result (λ r. IfOk r (λ b. IsOnStack frames.new)) }
     ensures whole { IfOk result (λ r. IfOk r (λ b. length frames.new.state.control.special ≡ 256)) }
+    ensures broken { IfOk result (StaysAfter frames.old frames.new) }
 {
     let before = kept_before(frames);
-    match see(code, own.phase, frames, other, stale, rec) {
+    match see(code, phase, frames, other, stale, rec) {
         Ok(passed) => {
             // (so that the chain of its stack pointers is known)
             let _depth = frames.depth();
@@ -111,10 +112,10 @@ pub fn see_record(
 ) -> Result<Result<Known, BreachKind>, AllocError>
     requires apart { AreApart own.now.frames (option_copied other) stale.now }
     requires same { frames.old ≡ own.now.frames }
-    ensures known { IfOk result (IsKnownPast own.now stale.now (seen_record (constant_byte code.now) own.now.frames.bounds (standing_of own.now) (others_live (option_copied other.entry)) (among stale.now) rec.now)) }
+    ensures known { IfOk result (IsKnownPast frames.old.bounds stale.now (seen_by (constant_byte code.now) frames.old own.now.phase (option_copied other.entry) (among stale.now) rec.now)) }
     ensures apart { IfOk result (IsApartPast (option_copied other.entry) stale.now) }
 {
-    match see_beside(alloc, code, own, frames, other, stale, rec)? {
+    match see_beside(alloc, code, own.phase, frames, other, stale, rec)? {
         Ok(beside) => {
             let Beside { phase, stale } = beside;
             let standing = Standing {

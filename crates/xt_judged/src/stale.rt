@@ -1,5 +1,6 @@
 //! The bytes that are stale.
-ghost use Rattle.std.specs.Prelude.{◌≡◌, ◌≤◌, ◌||◌, ◌&&◌, ◌==◌, ℕ, true, IfOk, OnOk, length};
+ghost use Rattle.std.specs.Prelude.{◌≡◌, ◌+◌, ◌≤◌, ◌<◌, ◌^◌, ◌||◌, ◌&&◌, ◌==◌, ℕ, true, IfOk, OnOk, length};
+ghost use Rattle.xt_map.specs.Touching.{touches};
 ghost use Rattle.xt_judged.specs.Past.{is_spared};
 ghost use Rattle.xt_judged.specs.Stales.{among, some_stored};
 
@@ -61,6 +62,18 @@ fn put(bytes: &mut Vec<u32>, addr: u32) -> Result<(), AllocError>
     Ok(())
 }
 
+// Puts so many bytes, from an address on, among these. The only error is running out of memory.
+fn put_run(bytes: &mut Vec<u32>, from: u32, size: u32) -> Result<(), AllocError>
+    requires { 0 < size → from + size ≤ 2 ^ 32 }
+    ensures { OnOk result ((a : ℕ) → among bytes.new.items a ≡ (among bytes.old.items a || touches from size a)) }
+{
+    let place = place_of(bytes.as_slice(), from);
+    for k in 0..size {
+        bytes.insert(place + k as usize, from + k)?;
+    }
+    Ok(())
+}
+
 // Those of these bytes that no store writes and that lie in no area of a call. The only error is running
 // out of memory.
 fn spared(
@@ -116,6 +129,23 @@ impl Stale {
         ensures { OnOk result ((a : ℕ) → among self.new a ≡ (addr == a || among self.old a)) }
     {
         put(&mut self.bytes, addr)
+    }
+
+    /// Adds so many bytes, from an address on. The only error is running out of memory.
+    pub fn add_run(&mut self, from: u32, size: u32) -> Result<(), AllocError>
+        requires { 0 < size → from + size ≤ 2 ^ 32 }
+        ensures { OnOk result ((a : ℕ) → among self.new a ≡ (among self.old a || touches from size a)) }
+    {
+        put_run(&mut self.bytes, from, size)
+    }
+
+    /// Whether one of so many bytes, from an address on, is stale.
+    pub fn holds_some(&self, from: u32, size: u32) -> bool {
+        let place = place_of(self.bytes.as_slice(), from);
+        match self.bytes.get(place) {
+            Some(byte) => u64::from(*byte) < u64::from(from) + u64::from(size),
+            None => false,
+        }
     }
 
     /// Whether a store writes a stale byte.

@@ -7,6 +7,7 @@ use crate::breaches::Met;
 use crate::scene::{Shown, Standing};
 use crate::stale::Stale;
 use std::rc::Rc;
+use xt_frames::HandlerPhase;
 use xt_map::Access;
 use xt_outcomes::{Part, World};
 use xt_trace::Stack;
@@ -39,6 +40,16 @@ impl Drop for OwnJudge {
             fate: _,
         } = self;
     }
+}
+
+/// The judge of a core that makes turns, beside the frames of that core.
+#[derive(Drop)]
+pub struct Running {
+    /// Where the core stands among handler steps.
+    pub phase: HandlerPhase,
+    /// The bytes that this core's own returns left stale.
+    pub stale: Stale,
+    pub fate: Fate,
 }
 
 /// Two cores between two turns, what memory holds, and the judge of each core. They share what is equal in

@@ -1,21 +1,25 @@
 //! The turns of two cores, each of which has a judge of its own.
-ghost use Rattle.std.specs.Prelude.{◌≡◌, ◌<◌, true, false, None, IfNone, IfOk, IfSome, OnOk};
+ghost use Rattle.std.specs.Prelude.{◌≡◌, ◌<◌, ◌&&◌, not, true, false, IfNone, IfOk, IfSome, OnOk};
 ghost use Rattle.xt_map.specs.Memory.{constant_byte};
+ghost use Rattle.xt_map.specs.declared.contents.MemoryContents.{MemoryContents};
 ghost use Rattle.xt_search.specs.Changed.{contents_of};
+ghost use Rattle.xt_outcomes.specs.Ahead.{IsAhead};
+ghost use Rattle.xt_outcomes.specs.Dead.{fits};
+ghost use Rattle.xt_outcomes.specs.KeptWorlds.{moved_spot, spot_of};
 ghost use Rattle.xt_outcomes.specs.Nexts.{misfits};
-ghost use Rattle.xt_judged.specs.Forgotten.{IsLed, IsOwnTurn, does_misfit};
-ghost use Rattle.xt_judged.specs.Lives.{AreApart};
-ghost use Rattle.xt_judged.specs.OwnJudges.{goes, is_alone, is_over, other_range, own_in, range_of, watched_bars};
-ghost use Rattle.xt_judged.specs.WatchedKept.{AreSettled, own_of, watched_of};
+ghost use Rattle.xt_judged.specs.Forgotten.{IsLed, IsOwnTurn, kept_bars};
+ghost use Rattle.xt_judged.specs.OwnJudges.{is_alone, is_over, other_range, own_in, range_of, uses_time, watched_bars, with_judge};
+ghost use Rattle.xt_judged.specs.WatchedKept.{AreSettled, IsRunning, judge_at, own_at, watched_of};
 
 use crate::clock::uses_time;
 use crate::judging::SceneDesk;
 use crate::own_judges::is_over;
-use crate::watched::{OwnJudge, Watched};
+use crate::watched::{Running, Watched};
 use std::alloc::{AllocError, Global};
 use xt_frames::Frames;
-use xt_outcomes::{Places, Side, Timed};
+use xt_outcomes::{Ahead, Places, Side, Timed};
 use xt_search::{Changes, Machine};
+use xt_special::number;
 use xt_trace::Stack;
 
 /// The machine of an image, whose cores have a judge each, and what is taken for granted of the words of
@@ -52,84 +56,119 @@ impl<'a> Watching<'a> {
         if core == 0 { self.stack1 } else { self.stack0 }
     }
 
-    // A core makes a turn, in place, and its judge becomes the one after it; false: the turn does not fit the
-    // dead registers, and nothing has changed. The only error is running out of memory.
-    //
-    // Conditions: the core is 0 or 1, it makes a turn, and that uses no time.
-    fn turn(
-        &self,
-        frames: &mut Frames,
-        side: &mut Side,
-        changes: &mut Changes,
-        judge: &mut OwnJudge,
-        core: u8,
-    ) -> Result<bool, AllocError>
-        requires core { core < 2 }
-        requires on { is_over (own_of side.old judge.old) ≡ false }
-        requires free { watched_bars (constant_byte self.now.timed.code) self.now.timed.timed (own_of side.old judge.old) ≡ false }
-        requires apart { AreApart judge.old.standing.frames None judge.old.stale }
-        ensures turn { let t = self.now.timed in let m = t.opening.contents in
-            IfOk result (λ b. b ≡ true → IsOwnTurn (constant_byte t.code) t.dead.masks.items (range_of self.now.stack0) (range_of self.now.stack1) t.timed core (own_of side.old judge.old) (contents_of m changes.old) (own_of side.new judge.new) (contents_of m changes.new)) }
-        ensures apart { OnOk result (AreApart judge.new.standing.frames None judge.new.stale) }
-        ensures fit { IfOk result (λ b. b ≡ true → misfits (constant_byte self.now.timed.code) self.now.timed.dead.masks.items side.old ≡ false) }
-        ensures misfit { IfOk result (λ b. b ≡ false → misfits (constant_byte self.now.timed.code) self.now.timed.dead.masks.items side.old ≡ true) }
-        ensures side { IfOk result (λ b. b ≡ false → side.new ≡ side.old) }
-        ensures changes { IfOk result (λ b. b ≡ false → changes.new ≡ changes.old) }
-        ensures judge { IfOk result (λ b. b ≡ false → judge.new ≡ judge.old) }
+    // Whether the next turn of a core that makes one, with these frames, uses time.
+    fn bars(&self, side: &Side, frames: &Frames) -> bool
+        ensures { result ≡ uses_time (constant_byte self.now.timed.code) self.now.timed.timed side.now frames.now.state }
     {
-        let made = self.timed.make_next(side, changes)?;
-        match made {
-            None => Ok(false),
-            Some(rec) => {
-                judge.kept_past(
-                    self.alloc,
-                    &self.timed.code,
-                    frames,
-                    self.other_stack(core),
-                    core,
-                    &rec,
-                    &self.timed.dead,
-                    side.pc(),
-                )?;
-                Ok(true)
-            }
-        }
-    }
-
-    // Whether the search has to end before a core makes its turn, since that uses time.
-    fn bars(&self, side: &Side, judge: &OwnJudge) -> bool
-        ensures { result ≡ watched_bars (constant_byte self.now.timed.code) self.now.timed.timed (own_of side.now judge.now) }
-    {
-        if is_over(side, judge) {
-            return false;
-        }
-        if side.bars(&self.timed.code, self.timed.timed) {
+        let code = &self.timed.code;
+        if side.bars(code, self.timed.timed) {
             return true;
         }
         if self.timed.timed {
             return false;
         }
-        uses_time(&self.timed.code, &judge.standing.frames)
+        uses_time(code, frames.special(number::INTENABLE), frames.current_pc())
     }
 
-    // Whether a core's next turn uses no time and meets nothing of the other core.
-    fn is_local(&self, side: &Side, judge: &OwnJudge, core: u8) -> bool
-        ensures { result ≡ is_alone (constant_byte self.now.timed.code) self.now.timed.timed self.now.places.list.items core (own_of side.now judge.now) }
+    // Whether the next turn of a core that makes one, with these frames, which is this turn, uses no time and
+    // fits the dead registers.
+    fn is_free(&self, side: &Side, frames: &Frames, ahead: &Ahead) -> bool
+        ensures { (m : MemoryContents) → IsAhead (constant_byte self.now.timed.code) side.now.state m ahead.now
+            → result ≡ (not (uses_time (constant_byte self.now.timed.code) self.now.timed.timed side.now frames.now.state) && fits (constant_byte self.now.timed.code) self.now.timed.dead.masks.items side.now.state) }
     {
-        if is_over(side, judge) {
+        if self.bars(side, frames) {
             return false;
         }
-        if self.bars(side, judge) {
-            return false;
-        }
-        let access = side.next_access(&self.timed.code);
-        self.places.is_own(core, access)
+        self.timed.fits_next(side, ahead)
     }
 
-    // A turn of a core that makes one, and then its turns that meet nothing and fit the dead registers; None:
-    // the first one does not fit them. The only error is running out of memory.
+    // Puts the next turn of a core, with these frames and this judge, in place of another one, and answers
+    // whether it makes that, the turn meets nothing of the other core, uses no time, and fits the dead registers.
+    fn local(
+        &self,
+        side: &Side,
+        changes: &Changes,
+        frames: &Frames,
+        judge: &Running,
+        core: u8,
+        ahead: &mut Ahead,
+    ) -> bool
+        ensures alone { result ≡ true → is_alone (constant_byte self.now.timed.code) self.now.timed.timed self.now.places.list.items core (own_at side.now frames.now judge.now) ≡ true }
+        ensures fit { result ≡ true → misfits (constant_byte self.now.timed.code) self.now.timed.dead.masks.items side.now ≡ false }
+        ensures ahead { result ≡ true → IsAhead (constant_byte self.now.timed.code) side.now.state (contents_of self.now.timed.opening.contents changes.now) ahead.new }
+    {
+        if is_over(side, judge.fate) {
+            return false;
+        }
+        side.look_ahead(&self.timed.code, &self.timed.opening, changes, ahead);
+        if !self.places.is_own(core, ahead.record.access) {
+            return false;
+        }
+        self.is_free(side, frames, ahead)
+    }
+
+    // A core makes its next turn, in place, and its frames and judge become those after it. The only error is
+    // running out of memory.
     //
-    // Conditions: the core is 0 or 1, and its turn uses no time.
+    // Conditions: the core is 0 or 1, it makes a turn, and the next one is this; that uses no time and fits the
+    // dead registers.
+    fn turn(
+        &self,
+        frames: &mut Frames,
+        side: &mut Side,
+        changes: &mut Changes,
+        judge: &mut Running,
+        core: u8,
+        ahead: &Ahead,
+    ) -> Result<(), AllocError>
+        requires core { core < 2 }
+        requires on { is_over (own_at side.old frames.old judge.old) ≡ false }
+        requires free { watched_bars (constant_byte self.now.timed.code) self.now.timed.timed (own_at side.old frames.old judge.old) ≡ false }
+        requires fit { misfits (constant_byte self.now.timed.code) self.now.timed.dead.masks.items side.old ≡ false }
+        requires ahead { IsAhead (constant_byte self.now.timed.code) side.old.state (contents_of self.now.timed.opening.contents changes.old) ahead.now }
+        requires running { IsRunning frames.old judge.old }
+        ensures turn { let t = self.now.timed in let m = t.opening.contents in
+            OnOk result (IsOwnTurn (constant_byte t.code) t.dead.masks.items (range_of self.now.stack0) (range_of self.now.stack1) t.timed core (own_at side.old frames.old judge.old) (contents_of m changes.old) (own_at side.new frames.new judge.new) (contents_of m changes.new)) }
+        ensures running { OnOk result (IsRunning frames.new judge.new) }
+    {
+        self.timed.go_on(side, ahead, changes)?;
+        judge.go_past(
+            self.alloc,
+            &self.timed.code,
+            frames,
+            self.other_stack(core),
+            core,
+            &ahead.record,
+            &self.timed.dead,
+            side.pc(),
+        )?;
+        Ok(())
+    }
+
+    // What is reached as a core has come so far, with these frames and this judge. The only error is running
+    // out of memory.
+    #[inline(always)]
+    fn come_to(
+        &self,
+        watched: &Watched,
+        core: u8,
+        side: Side,
+        changes: Changes,
+        frames: &Frames,
+        judge: Running,
+        turns: u32,
+    ) -> Result<Watched, AllocError>
+        requires { IsRunning frames.now judge }
+        ensures { let m = self.now.timed.opening.contents in IfOk result (λ w. watched_of m w ≡ with_judge core (judge_at frames.now judge) (moved_spot core side (contents_of m changes) (spot_of m watched.now.world)) (watched_of m watched.now)) }
+    {
+        let judge = judge.kept(self.alloc, frames)?;
+        watched.moved(self.alloc, core, side, changes, judge, turns)
+    }
+
+    // A turn of a core that makes one, and then its turns that use no time, fit the dead registers and meet
+    // nothing; None: the first one uses time or does not fit. The only error is running out of memory.
+    //
+    // Condition: the core is 0 or 1.
     fn run(
         &self,
         frames: &mut Frames,
@@ -138,32 +177,28 @@ impl<'a> Watching<'a> {
     ) -> Result<Option<Watched>, AllocError>
         requires core { core < 2 }
         requires on { is_over (own_in core (watched_of self.now.timed.opening.contents watched.now)) ≡ false }
-        requires free { watched_bars (constant_byte self.now.timed.code) self.now.timed.timed (own_in core (watched_of self.now.timed.opening.contents watched.now)) ≡ false }
         ensures led { let t = self.now.timed in
             IfOk result (λ o. IfSome o (λ w. IsLed (constant_byte t.code) t.dead.masks.items (range_of self.now.stack0) (range_of self.now.stack1) t.timed self.now.places.list.items core (watched_of t.opening.contents watched.now) (watched_of t.opening.contents w))) }
-        ensures misfit { IfOk result (λ o. IfNone o (does_misfit (constant_byte self.now.timed.code) self.now.timed.dead.masks.items core (watched_of self.now.timed.opening.contents watched.now) ≡ true)) }
+        ensures barred { let t = self.now.timed in IfOk result (λ o. IfNone o (kept_bars (constant_byte t.code) t.dead.masks.items t.timed t.opening.contents core watched.now ≡ true)) }
     {
         let mut changes = watched.world.changes.copy(self.alloc)?;
         let mut side = watched.world.side(core).copy();
-        let mut judge = watched.judge(core).copy(self.alloc)?;
-        let first = self.turn(frames, &mut side, &mut changes, &mut judge, core)?;
-        if !first {
+        let mut judge = watched.judge(core).begin(self.alloc, frames)?;
+        let mut ahead = side.ahead(&self.timed.code, &self.timed.opening, &changes);
+        if !self.is_free(&side, frames, &ahead) {
             return Ok(None);
         }
+        self.turn(frames, &mut side, &mut changes, &mut judge, core, &ahead)?;
         let mut turns = 1;
         for made in 0..self.most_local {
-            if !self.is_local(&side, &judge, core) {
-                let next = watched.moved(self.alloc, core, side, changes, judge, turns)?;
+            if !self.local(&side, &changes, frames, &judge, core, &mut ahead) {
+                let next = self.come_to(watched, core, side, changes, frames, judge, turns)?;
                 return Ok(Some(next));
             }
-            let more = self.turn(frames, &mut side, &mut changes, &mut judge, core)?;
-            if !more {
-                let next = watched.moved(self.alloc, core, side, changes, judge, turns)?;
-                return Ok(Some(next));
-            }
+            self.turn(frames, &mut side, &mut changes, &mut judge, core, &ahead)?;
             turns += 1;
         }
-        let next = watched.moved(self.alloc, core, side, changes, judge, turns)?;
+        let next = self.come_to(watched, core, side, changes, frames, judge, turns)?;
         Ok(Some(next))
     }
 
@@ -207,12 +242,7 @@ impl<'a> Machine for Watching<'a> {
         watched: &Watched,
         core: u8,
     ) -> Result<Option<Watched>, AllocError> {
-        let side = watched.world.side(core);
-        let judge = watched.judge(core);
-        if self.bars(side, judge) {
-            return Ok(None);
-        }
-        if is_over(side, judge) {
+        if is_over(watched.world.side(core), watched.judge(core).fate) {
             return Ok(Some(watched.copy()?));
         }
         let made = self.run(&mut desk.own, watched, core)?;

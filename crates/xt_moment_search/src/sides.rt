@@ -12,7 +12,7 @@ use xt_exec::Regs;
 use xt_moments::timer_bit;
 use xt_outcomes::Part;
 use xt_secret_walk::{CoreMasks, WatchedFile};
-use xt_special::{Ps, Special, number};
+use xt_special::number;
 use xt_trace::Options;
 use xt_uses::ALL_BITS;
 use xt_window::Windows;
@@ -82,57 +82,6 @@ pub(crate) fn with_register(regs: Regs<WatchedFile>, n: u8, value: u32) -> Regs<
     kept
 }
 
-// Whether all fields of PS are equal.
-fn is_same_ps(a: Ps, b: Ps) -> bool
-    ensures { result ≡ true → a ≡ b }
-{
-    a == b
-}
-
-// Whether numbers that were equal so far still are, with these two.
-fn are_still_equal(so_far: bool, a: u32, b: u32) -> bool
-    ensures before { result ≡ true → so_far ≡ true }
-    ensures these { result ≡ true → a ≡ b }
-{
-    so_far && a == b
-}
-
-// Whether all special registers are equal.
-fn is_same_special(a: &Special, b: &Special) -> bool
-    requires count_a { length a.now.file ≡ 256 }
-    requires count_b { length b.now.file ≡ 256 }
-    ensures { result ≡ true → a.now ≡ b.now }
-{
-    let mut equal = true;
-    for n in 0..256u32 {
-        equal = are_still_equal(equal, a.register(n as u8), b.register(n as u8));
-    }
-    if !equal {
-        return false;
-    }
-    is_same_ps(a.ps_fields(), b.ps_fields()) && a.threadptr() == b.threadptr()
-}
-
-// Whether all registers and the windows are equal.
-fn is_same_file(a: &WatchedFile, b: &WatchedFile) -> bool
-    requires count_a { length a.now.regs ≡ 64 }
-    requires count_b { length b.now.regs ≡ 64 }
-    ensures { result ≡ true → a.now ≡ b.now }
-{
-    let mut left = *a;
-    let mut right = *b;
-    let mut equal = true;
-    for n in 0..64u8 {
-        left.set_base(n / 4);
-        right.set_base(n / 4);
-        equal = are_still_equal(equal, left.read(n % 4), right.read(n % 4));
-    }
-    if !equal {
-        return false;
-    }
-    a.base() == b.base() && a.start() == b.start()
-}
-
 // Whether the same is known.
 fn is_same_masks(a: &CoreMasks, b: &CoreMasks) -> bool
     ensures { result ≡ true → a.now ≡ b.now }
@@ -176,8 +125,8 @@ impl Side {
             && self.stopped == other.stopped
             && self.regs.pc == other.regs.pc
             && self.regs.waiting == other.regs.waiting
-            && is_same_special(&self.regs.sr, &other.regs.sr)
-            && is_same_file(&self.regs.win, &other.regs.win)
+            && self.regs.sr.is_same(&other.regs.sr)
+            && self.regs.win.is_same(&other.regs.win)
             && is_same_masks(&self.masks, &other.masks)
     }
 

@@ -1,5 +1,4 @@
 pub mod Spotted
-pub mod Equal
 pub mod Turned
 pub mod Untimed
 pub mod Reading

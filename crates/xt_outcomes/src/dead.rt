@@ -57,16 +57,14 @@ impl Dead {
 }
 
 /// Puts 0 into the registers of a mask.
-pub(crate) fn forget(mask: u16, windows: WindowFile) -> WindowFile
-    ensures { result ≡ record windows { regs = cleared mask windows.base windows.regs 16 } }
+pub(crate) fn forget(mask: u16, windows: &mut WindowFile)
+    ensures { windows.new ≡ record windows.old { regs = cleared mask windows.old.base windows.old.regs 16 } }
 {
-    let mut after = windows;
     for i in 0..16u8 {
         if bit(mask, i) {
-            after.write(i, 0);
+            windows.write(i, 0);
         }
     }
-    after
 }
 
 /// The registers that the instruction at a program counter reads.

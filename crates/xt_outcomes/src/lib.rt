@@ -39,4 +39,5 @@ pub use shelf::{Part, Shelf};
 pub use sides::Side;
 pub use stuck::stuck_of;
 pub use timed::{Timed, WorldRun};
+pub use turns::Ahead;
 pub use world::{Shared, World};

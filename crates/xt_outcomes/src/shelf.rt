@@ -113,6 +113,7 @@ impl<T: Part + Drop> Shelf<T> {
 
     /// The kept value that is equal to this one; if there is none, this one is kept from now on. The only
     /// error is running out of memory.
+    #[inline(always)]
     pub fn shared(&mut self, alloc: Global, part: T) -> Result<Rc<T>, AllocError>
         ensures { IfOk result (λ rc. rc.value ≡ part) }
     {

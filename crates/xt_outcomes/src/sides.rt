@@ -1,11 +1,11 @@
 //! A core between two turns.
-ghost use Rattle.std.specs.Prelude.{◌≡◌, ◌<◌, true, false, length};
+ghost use Rattle.std.specs.Prelude.{◌≡◌, ◌<◌, true, false};
 ghost use Rattle.xt_outcomes.specs.SideMarks.{mixed, ring_of, side_mark};
 
 use crate::turns::leave_time;
 use std::marker::Model;
 use xt_exec::Regs;
-use xt_special::{Ps, Special, number};
+use xt_special::number;
 use xt_trace::{Options, Stop};
 use xt_window::{WindowFile, Windows};
 
@@ -29,62 +29,6 @@ impl Model for Side {
     ghost view = { λ s. record { state = file_state s.regs; left = s.left; stopped = s.stopped } };
 
     ghost invariant = { λ s. IsShaped (file_state s.regs) };
-}
-
-// Whether all fields of PS are equal.
-fn is_same_ps(a: Ps, b: Ps) -> bool
-    ensures same { result ≡ true → a ≡ b }
-    ensures equal { a ≡ b → result ≡ true }
-{
-    a == b
-}
-
-// Whether numbers that were equal so far still are, with these two.
-fn are_still_equal(so_far: bool, a: u32, b: u32) -> bool
-    ensures before { result ≡ true → so_far ≡ true }
-    ensures these { result ≡ true → a ≡ b }
-    ensures equal { so_far ≡ true → a ≡ b → result ≡ true }
-{
-    so_far && a == b
-}
-
-// Whether all special registers are equal. All are looked at, with no early end, so that several
-// are compared at once.
-fn is_same_special(a: &Special, b: &Special) -> bool
-    requires count_a { length a.now.file ≡ 256 }
-    requires count_b { length b.now.file ≡ 256 }
-    ensures same { result ≡ true → a.now ≡ b.now }
-    ensures equal { a.now ≡ b.now → result ≡ true }
-{
-    let mut equal = true;
-    for n in 0..256u32 {
-        equal = are_still_equal(equal, a.register(n as u8), b.register(n as u8));
-    }
-    if !equal {
-        return false;
-    }
-    is_same_ps(a.ps_fields(), b.ps_fields()) && a.threadptr() == b.threadptr()
-}
-
-// Whether all registers and the windows are equal.
-fn is_same_file(a: &WindowFile, b: &WindowFile) -> bool
-    requires count_a { length a.now.regs ≡ 64 }
-    requires count_b { length b.now.regs ≡ 64 }
-    ensures same { result ≡ true → a.now ≡ b.now }
-    ensures equal { a.now ≡ b.now → result ≡ true }
-{
-    let mut left = *a;
-    let mut right = *b;
-    let mut equal = true;
-    for n in 0..64u8 {
-        left.set_base(n / 4);
-        right.set_base(n / 4);
-        equal = are_still_equal(equal, left.read(n % 4), right.read(n % 4));
-    }
-    if !equal {
-        return false;
-    }
-    a.base() == b.base() && a.start() == b.start()
 }
 
 // A number, and all registers one after another.
@@ -131,6 +75,7 @@ impl Side {
     }
 
     /// The same core.
+    #[inline(always)]
     pub fn copy(&self) -> Side
         ensures { result ≡ self.now }
     {
@@ -150,8 +95,8 @@ impl Side {
             && self.stopped == other.stopped
             && self.regs.pc == other.regs.pc
             && self.regs.waiting == other.regs.waiting
-            && is_same_file(&self.regs.win, &other.regs.win)
-            && is_same_special(&self.regs.sr, &other.regs.sr)
+            && self.regs.win.is_same(&other.regs.win)
+            && self.regs.sr.is_same(&other.regs.sr)
     }
 
     /// The turns that are left.

@@ -19,7 +19,7 @@ use xt_core::stack_links;
 use xt_image::Image;
 use xt_map::Constants;
 use xt_search::{Changes, Machine};
-use xt_trace::{Options, StepRecord};
+use xt_trace::Options;
 use xt_window::Windows;
 
 /// The constant bytes of an image, what memory holds as its runs open, whether time is part of the
@@ -131,8 +131,6 @@ impl<'a> Timed<'a> {
     ghost use Rattle.xt_search.specs.Meetings.{after};
     ghost use Rattle.xt_search.specs.Changed.{IsLean, contents_of};
     ghost use Rattle.xt_outcomes.specs.Ahead.{IsAhead};
-    ghost use Rattle.xt_exec.specs.Turn.{demand, turn};
-    ghost use Rattle.xt_trace.specs.Worlds.{answer};
     ghost use Rattle.xt_outcomes.specs.Dead.{are_fit, dead_at, fits, spot_forgotten};
     ghost use Rattle.xt_outcomes.specs.KeptWorlds.{bars, moved_spot, spot_of};
     ghost use Rattle.xt_outcomes.specs.Nexts.{TurnsFit, next_bars, side_next, spot_next};
@@ -264,8 +262,17 @@ impl<'a> Timed<'a> {
         Ok(self.places.is_own(core, ahead.record.access))
     }
 
-    // A core makes its next turn, whose access is served. The only error is running out of memory.
-    fn go_on(&self, side: &mut Side, ahead: &Ahead, changes: &mut Changes) -> Result<(), AllocError>
+    /// A core makes its next turn, whose access is served, and forgets its dead registers. The only error is
+    /// running out of memory.
+    ///
+    /// Conditions: the core has a turn left, and the turn is its next one.
+    #[inline(always)]
+    pub fn go_on(
+        &self,
+        side: &mut Side,
+        ahead: &Ahead,
+        changes: &mut Changes,
+    ) -> Result<(), AllocError>
         requires left { 0 < side.old.left }
         requires ahead { IsAhead (constant_byte self.now.code) side.old.state (contents_of self.now.opening.contents changes.old) ahead.now }
         ensures side { OnOk result (side.new ≡ side_next (processor (constant_byte self.now.code)) self.now.timed self.now.dead.masks.items side.old.left side.old (contents_of self.now.opening.contents changes.old)) }
@@ -278,32 +285,11 @@ impl<'a> Timed<'a> {
         Ok(())
     }
 
-    /// A core makes its next turn, whose access is served, and answers the record of it; None: the turn does
-    /// not fit what is taken for granted of registers, and nothing has changed. The only error is running out
-    /// of memory.
-    ///
-    /// Condition: the core has a turn left.
-    pub fn make_next(
-        &self,
-        side: &mut Side,
-        changes: &mut Changes,
-    ) -> Result<Option<StepRecord>, AllocError>
-        requires left { 0 < side.old.left }
-        ensures side { IfOk result (λ o. IfSome o (λ r. side.new ≡ side_next (processor (constant_byte self.now.code)) self.now.timed self.now.dead.masks.items side.old.left side.old (contents_of self.now.opening.contents changes.old))) }
-        ensures memory { IfOk result (λ o. IfSome o (λ r. contents_of self.now.opening.contents changes.new ≡ memory_given (processor (constant_byte self.now.code)) side.old.left side.old.state (contents_of self.now.opening.contents changes.old))) }
-        ensures record { IfOk result (λ o. IfSome o (λ r. r ≡ (turn (constant_byte self.now.code) side.old.state (answer (demand (constant_byte self.now.code) side.old.state) (contents_of self.now.opening.contents changes.old))).0)) }
-        ensures fits { IfOk result (λ o. IfSome o (λ r. fits (constant_byte self.now.code) self.now.dead.masks.items side.old.state ≡ true)) }
-        ensures misfits { IfOk result (λ o. IfNone o (fits (constant_byte self.now.code) self.now.dead.masks.items side.old.state ≡ false)) }
-        ensures same_side { IfOk result (λ o. IfNone o (side.new ≡ side.old)) }
-        ensures same_changes { IfOk result (λ o. IfNone o (changes.new ≡ changes.old)) }
+    /// Whether a core's next turn, which is this one, fits what is taken for granted of registers.
+    pub fn fits_next(&self, side: &Side, ahead: &Ahead) -> bool
+        ensures { (m : MemoryContents) → IsAhead (constant_byte self.now.code) side.now.state m ahead.now → result ≡ fits (constant_byte self.now.code) self.now.dead.masks.items side.now.state }
     {
-        let ahead = side.ahead(&self.code, &self.opening, changes);
-        let passage = self.passage(side, &ahead);
-        if !self.fits(&passage) {
-            return Ok(None);
-        }
-        self.go_on(side, &ahead, changes)?;
-        Ok(Some(ahead.record))
+        self.fits(&self.passage(side, ahead))
     }
 
     /// Whether the places tell of the next turn of a core.
@@ -388,6 +374,7 @@ impl<'a> Timed<'a> {
     }
 
     // The world in which a core has come so far by so many turns. The only error is running out of memory.
+    #[inline(always)]
     fn run_to(
         &self,
         desk: &mut Desk,

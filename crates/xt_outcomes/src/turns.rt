@@ -80,7 +80,7 @@ fn leave_dead(regs: &mut Regs<WindowFile>, dead: &Dead)
     ensures shaped { IsShaped (file_state regs.new) }
 {
     let mask = dead.at(regs.pc);
-    regs.win = forget(mask, regs.win);
+    forget(mask, &mut regs.win);
 }
 
 // One turn with the reply that its access gets, and its record.
@@ -131,7 +131,8 @@ impl Side {
     }
 
     /// The core's next turn, with the reply that its access gets.
-    pub(crate) fn ahead(&self, code: &Constants, opening: &Memory, changes: &Changes) -> Ahead
+    #[inline(always)]
+    pub fn ahead(&self, code: &Constants, opening: &Memory, changes: &Changes) -> Ahead
         requires sizes { HasSizes opening.now.contents }
         requires bytes { AreBytes (constant_byte code.now) }
         ensures { IsAhead (constant_byte code.now) self.now.state (contents_of opening.now.contents changes.now) result }
@@ -142,7 +143,8 @@ impl Side {
     }
 
     /// Puts the core's next turn, with the reply that its access gets, in place of another one.
-    pub(crate) fn look_ahead(
+    #[inline(always)]
+    pub fn look_ahead(
         &self,
         code: &Constants,
         opening: &Memory,
@@ -160,6 +162,7 @@ impl Side {
     /// The core comes past its next turn; without time, where it is not timed.
     ///
     /// Condition: the core has a turn left.
+    #[inline(always)]
     pub(crate) fn come_past(&mut self, ahead: &Ahead, timed: bool)
         requires left { 0 < self.old.left }
         requires shaped { IsShaped (file_state ahead.now.regs) }

@@ -132,6 +132,7 @@ impl Shared {
     /// The world in which a core has come so far. The only error is running out of memory.
     ///
     /// Condition: the core is 0 or 1.
+    #[inline(always)]
     pub fn moved(
         &mut self,
         alloc: Global,

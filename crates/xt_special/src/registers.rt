@@ -1,7 +1,7 @@
 //! The special registers that a core keeps.
 #![tactic(auto)]
 
-ghost use Rattle.std.specs.Prelude.{◌≡◌, ◌<◌, ◌≤◌, ◌+◌, ◌-◌, ◌%◌, ◌^◌, slice_index, slice_set, bit_or};
+ghost use Rattle.std.specs.Prelude.{◌≡◌, ◌<◌, ◌≤◌, ◌+◌, ◌-◌, ◌%◌, ◌^◌, true, slice_index, slice_set, bit_or};
 ghost use Rattle.xt_special.specs.Numbers as numbers;
 ghost use Rattle.xt_special.specs.Shape.{CanHold, IsPs};
 ghost use Rattle.xt_special.specs.Opening.{no_special, opening_special, opening_ps};
@@ -92,6 +92,14 @@ impl Special {
         ensures { self.new ≡ record self.old { file = slice_set self.old.file n v } }
     {
         self.file[n as usize] = v;
+    }
+
+    /// Whether all registers, PS and THREADPTR are equal.
+    pub fn is_same(&self, other: &Special) -> bool
+        ensures same { result ≡ true → self.now ≡ other.now }
+        ensures equal { self.now ≡ other.now → result ≡ true }
+    {
+        self.file == other.file && self.ps == other.ps && self.threadptr == other.threadptr
     }
 
     /// SAR.

@@ -1,7 +1,7 @@
 //! The plain register file: 64 words, WINDOWBASE and WINDOWSTART.
 #![tactic(auto)]
 
-ghost use Rattle.std.specs.Prelude.{◌≡◌};
+ghost use Rattle.std.specs.Prelude.{◌≡◌, true};
 ghost use Rattle.xt_window.specs.Ring.{cleared_regs};
 
 use crate::Windows;
@@ -55,6 +55,14 @@ impl<U> OwnFile<U> {
             start: 1,
             user: PhantomData,
         }
+    }
+
+    /// Whether all registers, WINDOWBASE and WINDOWSTART are equal.
+    pub fn is_same(&self, other: &OwnFile<U>) -> bool
+        ensures same { result ≡ true → self.now ≡ other.now }
+        ensures equal { self.now ≡ other.now → result ≡ true }
+    {
+        self.base == other.base && self.start == other.start && self.regs == other.regs
     }
 }
 

@@ -1,4 +1,3 @@
-use Rattle.std.specs.Prelude.{replicate}
 use Rattle.std.proofs.Common.{rules, ◌≡◌, ◌*◌, ◌++◌, drop}
 use Rattle.std.proofs.lemmas.List.{take_rest}
 use Rattle.xt_frames.proofs.Sixteen.{filled}

@@ -1,4 +1,4 @@
-use Rattle.std.proofs.Common.{◌≡◌, ℕ, ◌<◌, ◌≤◌, length, arith}
+use Rattle.std.proofs.Common.{◌≡◌, ◌<◌, ◌≤◌, length, arith}
 use Rattle.xt_frames.proofs.Newest.{nobody, caller_moves}
 use Rattle.xt_frames.proofs.Same.{same_frames}
 use Rattle.xt_frames.proofs.snapshots.are_same.Goals as goal

@@ -12,14 +12,14 @@ pub returns-clause-state : goal.returns-clause-state
 returns-clause-state c =
     let r = c.args.regs.now in
     let make : WindowState → State = λ w. record { regs = w.regs; base = w.base; start = w.start; control = control_at r.pc r.waiting r.sr } in
-    ap make c.forget-regs.ensures
+    ap make c.forget.ensures
     ∙ ap (λ (mask : ℕ). let s : State = record (file_state r) { regs = cleared mask r.win.base r.win.regs 16 } in s) c.at-mask.ensures
 
 pub returns-clause-shaped : goal.returns-clause-shaped
 returns-clause-shaped c =
     let r = c.args.regs.now in
     let make : WindowState → State = λ w. record { regs = w.regs; base = w.base; start = w.start; control = control_at r.pc r.waiting r.sr } in
-    let is = ap make c.forget-regs.ensures
+    let is = ap make c.forget.ensures
     ∙ ap (λ (mask : ℕ). let s : State = record (file_state r) { regs = cleared mask r.win.base r.win.regs 16 } in s) c.at-mask.ensures
     in
     subst IsShaped (sym is) (forgotten_shaped c.args.dead.now.masks.items (file_state r) c.requires)

@@ -1,5 +1,4 @@
-use Rattle.std.proofs.Common.{◌≡◌, ℕ, ◌-◌, Option, None, List, sym, ◌∙◌, ap, arith, length}
-use Rattle.std.specs.Prelude.{slice_index_or}
+use Rattle.std.proofs.Common.{◌≡◌, ℕ, ◌-◌, Option, List, sym, ◌∙◌, ap, arith, length}
 use Rattle.xt_frames.specs.declared.view.Caller.{Caller}
 use Rattle.xt_frames.specs.Backtrace.{a0_in, a0_of_frame}
 use Rattle.xt_frames.specs.KeptFrameState.{frames_of}

@@ -1,4 +1,4 @@
-use Rattle.std.proofs.Common.{◌≡◌, ℕ, ◌≤◌, ◌+◌, ◌-◌, ◌/◌, sym, ◌∙◌, ap, arith, length, subst}
+use Rattle.std.proofs.Common.{◌≡◌, ap, arith, length}
 use Rattle.std.specs.Vec.{vec_capacity}
 use Rattle.xt_frames.specs.KeptFrameState.{AreKept}
 use Rattle.xt_frames.proofs.Kept.{kept_room}

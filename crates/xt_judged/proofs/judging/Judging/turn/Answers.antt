@@ -34,7 +34,7 @@ returns-in-Ok c =
     let spot =
     moved_first (processor code) t.timed core (spot_of m v.world) c.side.result.now after (contents_of m old) (contents_of m new) (c.side.ensures m) before c.in_ok-side.ensures.side c.in_ok-side.ensures.memory in
     let seen =
-    subst (λ (r : Result Known BreachKind). IsKnownPast (own_of core v) v.stale.value (seen_at code (bounds0 v) (bounds1 v) core (scene_of m v) rec) r) c.in-Ok.is (c.in_ok-known.ensures.known m) in
+    subst (λ (r : Result Known BreachKind). IsKnownPast (own_of core v).frames.bounds v.stale.value (seen_at code (bounds0 v) (bounds1 v) core (scene_of m v) rec) r) c.in-Ok.is (c.in_ok-known.ensures.known m) in
     leads_past code t.timed m core v
     (λ n. moved_scene n core v after new known.standing (renewed v.stale.value known.stale) (only_after core rec.access))
     c.past.result c.past.ensures.scene c.past.ensures.same0 c.past.ensures.same1
@@ -60,7 +60,7 @@ returns-in-Err c =
     let before : contents_of m old ≡ contents_of m v.world.changes.value = ap (contents_of m) (c.in_ok-changes.ensures ∙ c.deref.ensures) in
     let is = record_is code core (scene_of m v) c.side.result.now (contents_of m old) rec (c.side.ensures m) before c.in_ok-side.ensures.record in
     let seen =
-    subst (λ (r : Result Known BreachKind). IsKnownPast (own_of core v) v.stale.value (seen_at code (bounds0 v) (bounds1 v) core (scene_of m v) rec) r) c.in-Err.is (c.in_ok-known.ensures.known m) in
+    subst (λ (r : Result Known BreachKind). IsKnownPast (own_of core v).frames.bounds v.stale.value (seen_at code (bounds0 v) (bounds1 v) core (scene_of m v) rec) r) c.in-Err.is (c.in_ok-known.ensures.known m) in
     leads_past code t.timed m core v
     (λ n. let told : Told = record { core = core; pc = rec.pc; kind = c.in-Err.kind } in record (scene_of n v) { breach = Some told })
     c.with_breach-in-Err.result c.with_breach-in-Err.ensures.scene c.with_breach-in-Err.ensures.same0 c.with_breach-in-Err.ensures.same1

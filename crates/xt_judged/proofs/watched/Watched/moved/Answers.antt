@@ -13,7 +13,6 @@ returns-in_ok-clone-2 c = λ m.
     let v = c.args.self.now in
     let some : 0 < c.args.core = omega (arith, c.if-core-eq0.false) in
     let first : judge_of c.in_ok-clone-2.field-0.value ≡ judge_of v.judge0.value = ap judge_of c.in_ok-clone-2.ensures.cases in
-    let last : judge_of c.in_ok-judge.judge.value ≡ judge_of c.args.judge = ap judge_of c.in_ok-judge.ensures.ok in
     let make : Spot State → Judge → Judge → Watched = λ p j k. record { spot = p; judge0 = j; judge1 = k } in
-    (λ i. make (c.in_ok-world.ensures m i) (first i) (last i))
-    ∙ moved_one m v c.args.core (judge_of c.args.judge) (moved_spot c.args.core c.args.side (contents_of m c.args.changes) (spot_of m v.world)) some
+    (λ i. make (c.in_ok-world.ensures m i) (first i) (judge_of c.args.judge.value))
+    ∙ moved_one m v c.args.core (judge_of c.args.judge.value) (moved_spot c.args.core c.args.side (contents_of m c.args.changes) (spot_of m v.world)) some

@@ -1,11 +1,10 @@
-use Rattle.std.proofs.Common.{◌≡◌, ◌+◌, None}
+use Rattle.std.proofs.Common.{◌≡◌, ◌+◌}
 use Rattle.xt_map.specs.Memory.{constant_byte}
 use Rattle.xt_search.specs.Changed.{contents_of}
 use Rattle.xt_outcomes.specs.KeptWorlds.{moved_spot, spot_of}
 use Rattle.xt_judged.specs.Forgotten.{IsLed}
-use Rattle.xt_judged.specs.Lives.{AreApart}
 use Rattle.xt_judged.specs.OwnJudges.{range_of, with_judge}
-use Rattle.xt_judged.specs.WatchedKept.{judge_of, watched_of}
+use Rattle.xt_judged.specs.WatchedKept.{IsRunning, judge_at, watched_of}
 use Rattle.xt_judged.proofs.watching.Watching.run.Given as goal
 
 abbrev pub invariant-loop-made : goal.invariant-loop-made
@@ -15,7 +14,7 @@ invariant-loop-made l =
     record {
       led : IsLed (constant_byte t.code) t.dead.masks.items (range_of l.self.stack0) (range_of l.self.stack1) t.timed l.self.places.list.items l.core
           (watched_of m l.watched)
-          (with_judge l.core (judge_of l.judge) (moved_spot l.core l.side (contents_of m l.changes) (spot_of m l.watched.world)) (watched_of m l.watched));
-      apart : AreApart l.judge.standing.frames None l.judge.stale;
+          (with_judge l.core (judge_at l.frames l.judge) (moved_spot l.core l.side (contents_of m l.changes) (spot_of m l.watched.world)) (watched_of m l.watched));
+      running : IsRunning l.frames l.judge;
       count : l.turns ≡ l.made + 1;
     }

@@ -1,45 +1,22 @@
 use Rattle.std.proofs.Common.{sym, ap, ◌∙◌}
 use Rattle.xt_map.specs.Memory.{constant_byte}
-use Rattle.xt_judged.specs.OwnJudges.{is_over, range_of, watched_bars}
-use Rattle.xt_judged.proofs.FewerTurns.{bars_misfit, bars_used, led_copy, led_kept, own_kept}
+use Rattle.xt_judged.specs.OwnJudges.{is_over, range_of}
+use Rattle.xt_judged.proofs.FewerTurns.{led_copy, led_kept, own_kept}
 use Rattle.xt_judged.proofs.watching.WatchingMachine.turned.Goals as goal
-
-pub returns-then-bars-clause-barred : goal.returns-then-bars-clause-barred
-returns-then-bars-clause-barred c =
-    let t = c.args.self.now.timed in
-    let m = t.opening.contents in
-    let own = own_kept m c.args.watched.now c.args.core c.side-side.result.now c.judge-judge.result.now (c.side-side.ensures m) c.judge-judge.ensures in
-    bars_used (constant_byte t.code) t.dead.masks.items (range_of c.args.self.now.stack0) (range_of c.args.self.now.stack1) t.timed c.args.self.now.places.list.items m c.args.watched.now c.args.core
-    (ap (watched_bars (constant_byte t.code) t.timed) own ∙ sym c.bars.ensures ∙ c.if-bars.true)
 
 pub returns-then-is_over-clause-leads : goal.returns-then-is_over-clause-leads
 returns-then-is_over-clause-leads c =
     let t = c.args.self.now.timed in
     let m = t.opening.contents in
-    let own = own_kept m c.args.watched.now c.args.core c.side-side.result.now c.judge-judge.result.now (c.side-side.ensures m) c.judge-judge.ensures in
+    let own = own_kept m c.args.watched.now c.args.core c.side.result.now c.judge.result.now (c.side.ensures m) c.judge.ensures in
     led_copy (constant_byte t.code) t.dead.masks.items (range_of c.args.self.now.stack0) (range_of c.args.self.now.stack1) t.timed c.args.self.now.places.list.items m c.args.watched.now c.args.core
     c.in_ok-copy.field-0 (c.in_ok-copy.ensures m) (ap is_over own ∙ sym c.is_over.ensures ∙ c.if-is_over.true)
 
 pub run-requires-clause-on : goal.run-requires-clause-on
 run-requires-clause-on c =
     let m = c.args.self.now.timed.opening.contents in
-    let own = own_kept m c.args.watched.now c.args.core c.side-side.result.now c.judge-judge.result.now (c.side-side.ensures m) c.judge-judge.ensures in
+    let own = own_kept m c.args.watched.now c.args.core c.side.result.now c.judge.result.now (c.side.ensures m) c.judge.ensures in
     ap is_over own ∙ sym c.is_over.ensures ∙ c.if-is_over.false
-
-pub run-requires-clause-free : goal.run-requires-clause-free
-run-requires-clause-free c =
-    let t = c.args.self.now.timed in
-    let m = t.opening.contents in
-    let own = own_kept m c.args.watched.now c.args.core c.side-side.result.now c.judge-judge.result.now (c.side-side.ensures m) c.judge-judge.ensures in
-    ap (watched_bars (constant_byte t.code) t.timed) own ∙ sym c.bars.ensures ∙ c.if-bars.false
-
-pub returns-in-None-clause-barred : goal.returns-in-None-clause-barred
-returns-in-None-clause-barred c =
-    let t = c.args.self.now.timed in
-    let m = t.opening.contents in
-    let own = own_kept m c.args.watched.now c.args.core c.side-side.result.now c.judge-judge.result.now (c.side-side.ensures m) c.judge-judge.ensures in
-    bars_misfit (constant_byte t.code) t.dead.masks.items (range_of c.args.self.now.stack0) (range_of c.args.self.now.stack1) t.timed c.args.self.now.places.list.items m c.args.watched.now c.args.core
-    (ap is_over own ∙ sym c.is_over.ensures ∙ c.if-is_over.false) (rw c.in-None.is at c.in_ok-made.ensures.misfit)
 
 pub returns-in_ok-keep_watched-in-Some-clause-leads : goal.returns-in_ok-keep_watched-in-Some-clause-leads
 returns-in_ok-keep_watched-in-Some-clause-leads c =
