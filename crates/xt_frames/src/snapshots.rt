@@ -11,6 +11,7 @@ use crate::holes::{Nested, UndefinedParts};
 use crate::view::{Caller, FrameRegisters};
 use std::alloc::{AllocError, Global};
 use std::marker::Model;
+use xt_trace::StepRecord;
 
 /// A copy of a core of the machine with unbounded frames, in as much memory as its frames take.
 /// Contracts see what they see of the core.
@@ -170,8 +171,12 @@ fn are_same(a: &[Caller], b: &[Caller]) -> bool
 }
 
 impl Frames {
-    ghost use Rattle.std.specs.Prelude.{◌≢◌, None, slice_set};
+    ghost use Rattle.std.specs.Prelude.{◌≢◌, None, false, slice_set};
     ghost use Rattle.xt_special.specs.Control.{special_of};
+    ghost use Rattle.xt_special.specs.Numbers as numbers;
+    ghost use Rattle.xt_special.specs.Interrupts.{pending_of};
+    ghost use Rattle.xt_frames.specs.FrameStep.{with_inputs};
+    ghost use Rattle.xt_frames.specs.Breaches.{inputs_of};
     ghost use Rattle.xt_frames.specs.Nesting.{current};
     ghost use Rattle.xt_frames.specs.Walked.{bounds_of, fresh_before};
 
@@ -227,6 +232,23 @@ impl Frames {
         ensures { self.new ≡ record self.old { state = record self.old.state { seen = slice_set self.old.state.seen number None } } }
     {
         self.view.put(number, None);
+    }
+
+    /// Makes SCOMPARE1 0.
+    pub fn clear_compare(&mut self)
+        ensures { self.new ≡ record self.old { state = record self.old.state { control = record self.old.state.control { special = slice_set self.old.state.control.special numbers.scompare1 0 } } } }
+    {
+        self.view.clear_compare();
+    }
+
+    /// Whether the step on a record executes what is fetched, outside nested interrupts: no interrupt is taken,
+    /// and the core does not wait.
+    pub fn executes(&self, rec: &StepRecord) -> bool
+        ensures { result ≡ true → (pending_of (with_inputs (inputs_of rec.now) self.now.state).control ≡ 0) × (self.now.state.control.waits ≡ false) }
+    {
+        let mut laid = self.view;
+        laid.lay(rec);
+        laid.executes()
     }
 
     /// The program counter of what the next step finds: that of a nested interrupt where there is one.

@@ -1,11 +1,12 @@
 //! A frame state without its list of frames, and its step.
 #![tactic(auto)]
 
-ghost use Rattle.std.specs.Prelude.{◌≡◌, ◌<◌, ◌≤◌, ◌^◌, ◌%◌, ℕ, IfSome, List, [], None, true, slice_index_or, slice_set};
+ghost use Rattle.std.specs.Prelude.{◌≡◌, ◌<◌, ◌≤◌, ◌^◌, ◌%◌, ℕ, IfSome, List, [], None, false, true, slice_index_or, slice_set};
 ghost use Rattle.xt_isa.specs.Ranges.{in_range};
 ghost use Rattle.xt_map.specs.Memory.{constant_byte};
 ghost use Rattle.xt_special.specs.Control.{special_of};
 ghost use Rattle.xt_special.specs.Numbers as numbers;
+ghost use Rattle.xt_special.specs.Interrupts.{pending_of};
 ghost use Rattle.xt_special.specs.Timers.{after_tick};
 ghost use Rattle.xt_rows.specs.Effects.{puts, no_change};
 ghost use Rattle.xt_rows.specs.RowLaws.{IsAny, IsProper, IsProperEffect, IsProperStep, IsProperWrite, IsRegister, IsShiftAmount};
@@ -154,6 +155,23 @@ impl FrameRegisters {
         self.special.set_register(number::CCOUNT, rec.ccount);
         self.special.set_register(number::INTERRUPT, rec.interrupt);
         self.special.set_owb(rec.owb % 16);
+    }
+
+    /// Makes SCOMPARE1 0.
+    pub fn clear_compare(&mut self)
+        ensures { self.new ≡ record self.old { control = record self.old.control { special = slice_set self.old.control.special numbers.scompare1 0 } } }
+    {
+        self.special.set_register(number::SCOMPARE1, 0);
+    }
+
+    /// Whether the next step executes what is fetched: no interrupt is taken, and the core does not wait.
+    pub fn executes(&self) -> bool
+        ensures { result ≡ true → (pending_of self.now.control ≡ 0) × (self.now.control.waits ≡ false) }
+    {
+        match xt_special::entries::pending(&self.special) {
+            Some(_) => false,
+            None => !self.waits,
+        }
     }
 
     /// What the inputs of a record will be laid over.

@@ -21,6 +21,7 @@ use Rattle.xt_frames.specs.Judging.{Standing, Seen, Handled, Judges, Breaks, see
 use Rattle.xt_frames.specs.Verdict.{Known, judgement, passed_0, passed_1, past_handled_0, past_handled_1, past_judged_0, past_judged_1, seen_0, seen_1}
 use Rattle.xt_timeless.specs.Bare.{Bare, BareWorld, bare_given, bare_in, bare_memory, bare_past}
 use Rattle.xt_timeless.specs.TimeLaws.{HasTurns, HaveTurns}
+use Rattle.xt_timeless.specs.Alike.{Clocks}
 use Rattle.xt_timeless.specs.Time.{uses_time, without_time}
 use Rattle.xt_timeless.proofs.Going.{bare_gives, same_demand}
 use Rattle.xt_timeless.proofs.Lists.{cleared_alike}
@@ -134,15 +135,15 @@ module _ (code : ℕ → ℕ) (bytes : AreBytes code) (b0 b1 : Bounds) (R : Scen
     pub spot : z.spot ≡ spot_in false w
     pub ends0 : Ends w.core0
     pub ends1 : Ends w.core1
-    pub standing0 : IsKeptStanding z.standing0 k.standing0
-    pub standing1 : IsKeptStanding z.standing1 k.standing1
+    pub standing0 : IsKeptStanding Clocks z.standing0 k.standing0
+    pub standing1 : IsKeptStanding Clocks z.standing1 k.standing1
     pub stale : z.stale ≡ k.stale
     pub reached : R z
 
   pub record OnOne (c : Core State) (st : Standing) (z : Scene) : Type 0 where
     pub side : z.spot.side1 ≡ side_in false c
     pub ends : Ends c
-    pub standing : IsKeptStanding z.standing1 st
+    pub standing : IsKeptStanding Clocks z.standing1 st
     pub reached : R z
 
   pub one_of : (w : World State) (k : Known) (z : Scene) → On w k z → OnOne w.core1 k.standing1 z
@@ -196,13 +197,13 @@ module _ (code : ℕ → ℕ) (bytes : AreBytes code) (b0 b1 : Bounds) (R : Scen
     others0 : is_live b1.range z.standing1.frame ≡ is_live b1.range k.standing1.frame
     others0 = unlike_special (is_live b1.range) z.standing1.frame k.standing1.frame (λ list. refl) on.standing1.frame
 
-    sees0 : IsKeptSeen (seen_at code b0 b1 0 z (record_of (processor code) 0 z)) (seen_0 code b0 b1 k (next_record (processor code) w.core0 w.line))
+    sees0 : IsKeptSeen Clocks (seen_at code b0 b1 0 z (record_of (processor code) 0 z)) (seen_0 code b0 b1 k (next_record (processor code) w.core0 w.line))
     sees0 =
         let x = record_of (processor code) 0 z in
         let y = next_record (processor code) w.core0 w.line in
         let here = seen_kept code b0 z.standing0 k.standing0 (is_live b1.range z.standing1.frame) z.stale x y bytes on.standing0 record0 barred0.1 in
-        let live = subst (λ (l : ℕ → Bool). IsKeptSeen (seen_at code b0 b1 0 z x) (seen_record code b0 k.standing0 l z.stale y)) others0 here in
-        subst (λ (l : ℕ → Bool). IsKeptSeen (seen_at code b0 b1 0 z x) (seen_record code b0 k.standing0 (is_live b1.range k.standing1.frame) l y)) on.stale live
+        let live = subst (λ (l : ℕ → Bool). IsKeptSeen Clocks (seen_at code b0 b1 0 z x) (seen_record code b0 k.standing0 l z.stale y)) others0 here in
+        subst (λ (l : ℕ → Bool). IsKeptSeen Clocks (seen_at code b0 b1 0 z x) (seen_record code b0 k.standing0 (is_live b1.range k.standing1.frame) l y)) on.stale live
 
     access0 : (record_of (processor code) 0 z).access ≡ (next_record (processor code) w.core0 w.line).access
     access0 = sym (ap (λ (r : StepRecord). r.access) record0.is)
@@ -210,7 +211,7 @@ module _ (code : ℕ → ℕ) (bytes : AreBytes code) (b0 b1 : Bounds) (R : Scen
     moved0 : (spot_past (processor code) false 0 z.spot ≡ spot_in false (give (processor code) 0 w)) × Ends (give (processor code) 0 w).core0
     moved0 = let m = spot_0 code bytes w on.ends0 some time0 in (ap (spot_past (processor code) false 0) on.spot ∙ m.0, m.1)
 
-    by_both0 : (s t : Seen) → seen_at code b0 b1 0 z (record_of (processor code) 0 z) ≡ s → seen_0 code b0 b1 k (next_record (processor code) w.core0 w.line) ≡ t → IsKeptSeen s t
+    by_both0 : (s t : Seen) → seen_at code b0 b1 0 z (record_of (processor code) 0 z) ≡ s → seen_0 code b0 b1 k (next_record (processor code) w.core0 w.line) ≡ t → IsKeptSeen Clocks s t
         → Turned0 (processor code) code b0 b1 (λ (y : Scene). y.only) On OnOne w k
     by_both0 (Handled st) (Handled su) e f same = (
       passed (processor code) false 0 z (record_of (processor code) 0 z) (Handled st),
@@ -273,13 +274,13 @@ module _ (code : ℕ → ℕ) (bytes : AreBytes code) (b0 b1 : Bounds) (R : Scen
     others1 : is_live b0.range z.standing0.frame ≡ is_live b0.range k.standing0.frame
     others1 = unlike_special (is_live b0.range) z.standing0.frame k.standing0.frame (λ list. refl) on.standing0.frame
 
-    sees1 : IsKeptSeen (seen_at code b0 b1 1 z (record_of (processor code) 1 z)) (seen_1 code b0 b1 k (next_record (processor code) w.core1 w.line))
+    sees1 : IsKeptSeen Clocks (seen_at code b0 b1 1 z (record_of (processor code) 1 z)) (seen_1 code b0 b1 k (next_record (processor code) w.core1 w.line))
     sees1 =
         let x = record_of (processor code) 1 z in
         let y = next_record (processor code) w.core1 w.line in
         let here = seen_kept code b1 z.standing1 k.standing1 (is_live b0.range z.standing0.frame) z.stale x y bytes on.standing1 record1 barred1.1 in
-        let live = subst (λ (l : ℕ → Bool). IsKeptSeen (seen_at code b0 b1 1 z x) (seen_record code b1 k.standing1 l z.stale y)) others1 here in
-        subst (λ (l : ℕ → Bool). IsKeptSeen (seen_at code b0 b1 1 z x) (seen_record code b1 k.standing1 (is_live b0.range k.standing0.frame) l y)) on.stale live
+        let live = subst (λ (l : ℕ → Bool). IsKeptSeen Clocks (seen_at code b0 b1 1 z x) (seen_record code b1 k.standing1 l z.stale y)) others1 here in
+        subst (λ (l : ℕ → Bool). IsKeptSeen Clocks (seen_at code b0 b1 1 z x) (seen_record code b1 k.standing1 (is_live b0.range k.standing0.frame) l y)) on.stale live
 
     access1 : (record_of (processor code) 1 z).access ≡ (next_record (processor code) w.core1 w.line).access
     access1 = sym (ap (λ (r : StepRecord). r.access) record1.is)
@@ -287,7 +288,7 @@ module _ (code : ℕ → ℕ) (bytes : AreBytes code) (b0 b1 : Bounds) (R : Scen
     moved1 : (spot_past (processor code) false 1 z.spot ≡ spot_in false (give (processor code) 1 w)) × Ends (give (processor code) 1 w).core1
     moved1 = let m = spot_1 code bytes w on.ends1 some time1 in (ap (spot_past (processor code) false 1) on.spot ∙ m.0, m.1)
 
-    by_both1 : (s t : Seen) → seen_at code b0 b1 1 z (record_of (processor code) 1 z) ≡ s → seen_1 code b0 b1 k (next_record (processor code) w.core1 w.line) ≡ t → IsKeptSeen s t
+    by_both1 : (s t : Seen) → seen_at code b0 b1 1 z (record_of (processor code) 1 z) ≡ s → seen_1 code b0 b1 k (next_record (processor code) w.core1 w.line) ≡ t → IsKeptSeen Clocks s t
         → Turned1 (processor code) code b0 b1 (λ (y : Scene). y.only) On OnOne w k
     by_both1 (Handled st) (Handled su) e f same = (
       passed (processor code) false 1 z (record_of (processor code) 1 z) (Handled st),
@@ -357,7 +358,7 @@ module _ (code : ℕ → ℕ) (bytes : AreBytes code) (b0 b1 : Bounds) (R : Scen
     access_one = sym (ap (λ (r : StepRecord). r.access) record_one.is)
 
     -- beside the same core 0
-    beside : IsKeptSeen (seen_at code b0 b1 1 z (record_of (processor code) 1 z))
+    beside : IsKeptSeen Clocks (seen_at code b0 b1 1 z (record_of (processor code) 1 z))
         (seen_record code b1 k.standing1 (is_live b0.range z.standing0.frame) z.stale (next_record (processor code) w.core1 w.line))
     beside =
         seen_kept code b1 z.standing1 k.standing1 (is_live b0.range z.standing0.frame) z.stale (record_of (processor code) 1 z) (next_record (processor code) w.core1 w.line) bytes on.standing record_one
@@ -380,19 +381,19 @@ module _ (code : ℕ → ℕ) (bytes : AreBytes code) (b0 b1 : Bounds) (R : Scen
         given_any asks (suc n) m l =
             ap (side_past (processor code) false (side_in false w.core1) n) (ap (λ (d : Option Access). answer d m) asks ∙ sym (ap (λ (d : Option Access). answer d l) asks))
 
-    by_three : (s t u : Seen) → seen_at code b0 b1 1 z (record_of (processor code) 1 z) ≡ s → seen_1 code b0 b1 k (next_record (processor code) w.core1 w.line) ≡ u → IsKeptSeen s t → IsAsSeen t u
+    by_three : (s t u : Seen) → seen_at code b0 b1 1 z (record_of (processor code) 1 z) ≡ s → seen_1 code b0 b1 k (next_record (processor code) w.core1 w.line) ≡ u → IsKeptSeen Clocks s t → IsAsSeen t u
         → TurnedOne (processor code) code b0 b1 (λ (y : Scene). y.only) On OnOne w k
     by_three (Handled st) (Handled su) (Handled sv) e f same like = (
       passed (processor code) false 1 z (record_of (processor code) 1 z) (Handled st),
       past_handled_1 sv k,
-      record { side = moved_one.0; ends = moved_one.1; standing = subst (IsKeptStanding st) like same; reached = led 1 z (Handled st) (omega arith) on.reached alone left_one e },
+      record { side = moved_one.0; ends = moved_one.1; standing = subst (IsKeptStanding Clocks st) like same; reached = led 1 z (Handled st) (omega arith) on.reached alone left_one e },
       ap (only_after 1) (access_one ∙ none),
       λ cores xs ys. ap (λ (s : Seen). passed_1 s k (next_record (processor code) w.core1 w.line) (λ n. judgement code b0 b1 cores xs ys n)) f,
     )
     by_three (Judges st a) (Judges su b) (Judges sv c) e f same like = (
       passed (processor code) false 1 z (record_of (processor code) 1 z) (Judges st a),
       past_judged_1 sv c (next_record (processor code) w.core1 w.line) k,
-      record { side = moved_one.0; ends = moved_one.1; standing = subst (IsKeptStanding st) like same.0; reached = led 1 z (Judges st a) (omega arith) on.reached alone left_one e },
+      record { side = moved_one.0; ends = moved_one.1; standing = subst (IsKeptStanding Clocks st) like same.0; reached = led 1 z (Judges st a) (omega arith) on.reached alone left_one e },
       ap (only_after 1) (access_one ∙ none),
       λ cores xs ys. ap (λ (s : Seen). passed_1 s k (next_record (processor code) w.core1 w.line) (λ n. judgement code b0 b1 cores xs ys n)) f,
     )

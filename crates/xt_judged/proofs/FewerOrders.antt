@@ -1,5 +1,5 @@
 -- What is kept of two cores and their judges without dead registers tells of each order of turns.
-use Rattle.std.proofs.Common.{◌≡◌, ◌≢◌, ℕ, zero, suc, ◌<◌, Bool, true, false, cond, not, ◌&&◌, ◌||◌, Option, Some, None, List, [], ◌∷◌, ◌++◌, length, get_or, refl, sym, ap, ◌∙◌, subst, arith}
+use Rattle.std.proofs.Common.{◌≡◌, ◌≢◌, ℕ, zero, suc, ◌<◌, Bool, true, false, cond, not, ◌&&◌, ◌||◌, Option, Some, None, List, [], ◌∷◌, ◌++◌, length, get_or, refl, sym, ap, ◌∙◌, subst, ◌⊎◌, ⊎_elim, arith}
 use Rattle.std.specs.Prelude.{◌==◌, bit_and, unwrap_or}
 use Rattle.std.proofs.lemmas.Bool.{and_from, and_parts, not-true, or_parts, true≢false}
 use Rattle.xt_map.specs.declared.access.Access.{Access}
@@ -13,14 +13,13 @@ use Rattle.xt_exec.specs.Turn.{demand, turn}
 use Rattle.xt_special.specs.Control.{Control, special_of}
 use Rattle.xt_special.specs.Numbers as number
 use Rattle.xt_map.specs.Fetching.{fetch_at}
-use Rattle.xt_timeless.specs.Time.{fetches_time, timer_bits}
+use Rattle.xt_timeless.specs.Time.{fetches_compare, fetches_time, timer_bits}
 use Rattle.xt_frames.specs.declared.holes.Nested as holes
 use Rattle.xt_frames.specs.Frames.{Frame, FrameState, value_or_zero}
 use Rattle.xt_frames.specs.Nesting.{current, current_in}
 use Rattle.xt_frames.specs.SaveAreas.{Range, areas, covers_byte, is_live}
 use Rattle.xt_frames.specs.Walked.{Walked}
 use Rattle.xt_frames.specs.declared.kinds.HandlerPhase.{HandlerPhase}
-use Rattle.xt_frames.specs.Breaches.{Bounds}
 use Rattle.xt_frames.specs.Judging.{Standing, Seen, Handled, Judges, Breaks, seen_record}
 use Rattle.xt_search.specs.declared.graph.Graph.{Graph}
 use Rattle.xt_search.specs.declared.graph.Nexts.{Nexts}
@@ -30,7 +29,7 @@ use Rattle.xt_search.specs.Worlds.{IsOrder}
 use Rattle.xt_search.proofs.Endings.{some_at}
 use Rattle.xt_search.proofs.Numbers.{at_within}
 use Rattle.xt_search.proofs.Meeting.{after_append, covers_orders}
-use Rattle.xt_outcomes.specs.Dead.{fits, forgotten, side_forgotten, spot_forgotten}
+use Rattle.xt_outcomes.specs.Dead.{dead_at, fits, forgotten, has_compare, side_forgotten, spot_forgotten}
 use Rattle.xt_outcomes.specs.Nexts.{misfits, next_bars, spot_next}
 use Rattle.xt_outcomes.specs.Places.{is_own_access, is_told, may_access}
 use Rattle.xt_outcomes.specs.SpotRaces.{next_of}
@@ -39,7 +38,7 @@ use Rattle.xt_outcomes.specs.declared.places.Place.{Place}
 use Rattle.xt_outcomes.proofs.Covering.{next_allowed}
 use Rattle.xt_outcomes.proofs.Forgetting.{MakeOneTurn, fit_turn, forgot_after, free_forgetting, next_forgetting}
 use Rattle.xt_judged.specs.Lives.{AreApart}
-use Rattle.xt_judged.specs.OwnJudges.{Judge, Own, Watched, are_within, comes_to, goes, is_alone, is_over, is_within, judge_past, judge_seen, other_range, own_in, record_in, turned, watched_bars, watched_past, watched_run, with_judge, with_known}
+use Rattle.xt_judged.specs.OwnJudges.{Judge, Own, Watched, comes_to, goes, is_alone, is_over, is_within, judge_past, judge_seen, other_range, own_in, record_in, turned, watched_bars, watched_past, watched_run, with_judge, with_known}
 use Rattle.xt_judged.specs.declared.watched.Fate.{Fate}
 use Rattle.xt_judged.specs.declared.watched.Fate.TheVariants as fate
 use Rattle.xt_judged.specs.Timeless.{frame_uses_time}
@@ -48,71 +47,13 @@ use Rattle.xt_judged.specs.declared.watched.Watched as kept
 use Rattle.std.proofs.Math.ListN.{set}
 use Rattle.std.proofs.lemmas.Option.{none-some}
 use Rattle.xt_judged.proofs.Every.{orders_more}
-use Rattle.xt_judged.specs.Forgotten.{AreFewer, AreFramesFewer, BothGo, IsFewerAt, IsFewerJudge, IsFewerStanding, IsForgotten, IsKeptJudge, IsLed, IsOuter, IsTurn, Leads, Stands, StandsPast}
-use Rattle.xt_judged.proofs.FewerJudges.{IsFewerSeen, IsOnStack, IsSeenOnStack, places, seen_fewer}
+use Rattle.xt_judged.specs.Forgotten.{AreFewer, AreFramesFewer, BothGo, IsFewerAt, IsFewerJudge, IsForgotten, IsKeptJudge, IsLed, IsOuter, IsTurn, Leads, Stands, StandsPast}
+use Rattle.xt_judged.proofs.FewerJudges.{IsOnStack, IsSeenOnStack}
+use Rattle.xt_judged.proofs.OneFewer.{judge_fewer}
+use Rattle.xt_judged.proofs.Written.{IsWriting}
+use Rattle.xt_judged.proofs.Compared.{other_without, standing_itself, without_compare}
+use Rattle.xt_judged.proofs.LikeJudges.{both_past, fewer_without}
 use Rattle.xt_judged.proofs.WatchedTurns.{AllGo, IsAllowed, all_went, alone_allowed, other_stays, over_parts, step_made, step_over, step_sizes, turns_commute}
-
--- ---- judges
-
-within_same : (b : Bounds) (s t : Standing) → IsFewerStanding s t → IsOnStack b s.frame → is_within b.range s.frame ≡ is_within b.range t.frame
-within_same b s t h on = ap (are_within b.range) (places s.frame t.frame h.frame b on)
-
-module _ (j k : Judge) (h : IsFewerJudge j k) where
-  known_fewer : (s t : Standing) (x y : ℕ → Bool) → IsFewerStanding s t → x ≡ y → IsOnStack j.bounds s.frame → goes (with_known s x j).fate ≡ true → IsFewerJudge (with_known s x j) (with_known t y k)
-  known_fewer s t x y f e on go = by (is_within j.bounds.range s.frame) refl
-    where
-      new : Judge
-      new = record { standing = s; bounds = j.bounds; stale = x; fate = j.fate }
-
-      newer : Judge
-      newer = record { standing = t; bounds = k.bounds; stale = y; fate = k.fate }
-
-      lost : Judge
-      lost = record j { fate = fate.Crossed }
-
-      gone : Judge
-      gone = record k { fate = fate.Crossed }
-
-      there : is_within k.bounds.range t.frame ≡ is_within j.bounds.range s.frame
-      there = ap (λ (b : Bounds). is_within b.range t.frame) (sym h.bounds) ∙ sym (within_same j.bounds s t f on)
-
-      by : (b : Bool) → is_within j.bounds.range s.frame ≡ b → IsFewerJudge (with_known s x j) (with_known t y k)
-      by true i =
-          let both : IsFewerJudge new newer = record { standing = f; bounds = h.bounds; stale = e; fate = h.fate } in
-          subst (λ (z : Bool). IsFewerJudge (cond z new lost) (with_known t y k)) (sym i) (subst (λ (z : Bool). IsFewerJudge new (cond z newer gone)) (sym (there ∙ i)) both)
-      by false i = absurd (true≢false (sym (ap (λ (z : Bool). goes (cond z new lost).fate) (sym i) ∙ go)))
-
-  seen_judge : (c : ℕ) (rec : StepRecord) (s t : Seen) → IsFewerSeen s t → IsSeenOnStack j.bounds s → goes (judge_seen c rec j s).fate ≡ true → IsFewerJudge (judge_seen c rec j s) (judge_seen c rec k t)
-  seen_judge c rec (Handled s) (Handled t) f on go = known_fewer s t j.stale k.stale f h.stale on go
-  seen_judge c rec (Judges s x) (Judges t y) f on go = known_fewer s t x y f.0 f.1 on go
-  seen_judge c rec (Breaks kind) t f on go = absurd (true≢false (sym go))
-  seen_judge c rec (Handled s) (Judges t y) f on go = absurd f
-  seen_judge c rec (Handled s) (Breaks kind) f on go = absurd f
-  seen_judge c rec (Judges s x) (Handled t) f on go = absurd f
-  seen_judge c rec (Judges s x) (Breaks kind) f on go = absurd f
-
-  module _ (code : ℕ → ℕ) (other : Range) (c : ℕ) (rec : StepRecord) where
-    abbrev alone : Judge → Seen
-    alone x = seen_record code x.bounds x.standing (λ a. false) x.stale rec
-
-    seen_both : IsOuter j.standing.phase rec → IsOnStack j.bounds j.standing.frame → IsSeenOnStack j.bounds (alone j) → IsFewerSeen (alone j) (alone k)
-    seen_both outer on later =
-        subst (IsFewerSeen (alone j)) (λ i. seen_record code (h.bounds i) k.standing (λ a. false) (h.stale i) rec)
-        (seen_fewer code j.bounds j.standing k.standing h.standing (λ a. false) j.stale rec on outer later)
-
-    -- a judge that knows fewer registers, and goes on, goes on as one that knows more
-    pub judge_fewer : IsOuter j.standing.phase rec → IsOnStack j.bounds j.standing.frame → IsSeenOnStack j.bounds (alone j) → goes (judge_past code other c j rec).fate ≡ true
-        → IsFewerJudge (judge_past code other c j rec) (judge_past code other c k rec)
-    judge_fewer outer on later go = by (comes_to other rec.access) refl
-      where
-        past : Bool → Judge → Judge
-        past b x = cond b (record x { fate = fate.Crossed }) (judge_seen c rec x (alone x))
-
-        by : (b : Bool) → comes_to other rec.access ≡ b → IsFewerJudge (judge_past code other c j rec) (judge_past code other c k rec)
-        by true e = absurd (true≢false (sym (ap (λ (b : Bool). goes (past b j).fate) (sym e) ∙ go)))
-        by false e =
-            let seen = seen_judge c rec (alone j) (alone k) (seen_both outer on later) later (ap (λ (b : Bool). goes (past b j).fate) (sym e) ∙ go) in
-            subst (λ (b : Bool). IsFewerJudge (past b j) (past b k)) (sym e) seen
 
 -- ---- registers that are forgotten
 
@@ -178,34 +119,39 @@ fewer_judges i j k g h =
 pub kept_self : (ms : List ℕ) (j : Judge) → j.standing.frame.nested ≡ None → IsKeptJudge ms j j
 kept_self [] j plain = refl
 kept_self (m ∷ ms) j plain =
-    let f = j.standing.frame in
-    record {
-      standing = record {
-        frame = record { seen = fewer_self f.seen; frames = frames_self f.frames; control = refl; unset = refl; plain = plain; other = plain };
-        fresh = refl;
-        phase = refl;
-      };
-      bounds = refl;
-      stale = refl;
-      fate = refl;
-    }
+    let f = j.standing.frame in (
+      j,
+      record {
+        standing = record {
+          frame = record { seen = fewer_self f.seen; frames = frames_self f.frames; control = refl; unset = refl; plain = plain; other = plain };
+          fresh = refl;
+          phase = refl;
+        };
+        bounds = refl;
+        stale = refl;
+        fate = refl;
+      },
+      record { standing = standing_itself (m ∷ ms) j.standing; bounds = refl; stale = refl; fate = refl },
+    )
 
 kept_fate : (ms : List ℕ) (j k : Judge) → IsKeptJudge ms j k → j.fate ≡ k.fate
 kept_fate [] j k h = ap (λ (x : Judge). x.fate) h
-kept_fate (m ∷ ms) j k h = h.fate
+kept_fate (m ∷ ms) j k h = h.1.fate ∙ h.2.fate
 
 kept_time : (code : ℕ → ℕ) (ms : List ℕ) (j k : Judge) → IsKeptJudge ms j k → frame_uses_time code j.standing.frame ≡ frame_uses_time code k.standing.frame
 kept_time code [] j k h = ap (λ (x : Judge). frame_uses_time code x.standing.frame) h
 kept_time code (m ∷ ms) j k h =
-    let f = j.standing.frame in
-    let g = k.standing.frame in
-    let l = h.standing.frame in
-    let plain : (x : FrameState) → x.nested ≡ None → (current x).control ≡ x.control = λ x e. ap (λ (o : Option holes.Nested). (current_in o x).control) e in
-    let same : (current f).control ≡ (current g).control = plain f l.plain ∙ l.control ∙ sym (plain g l.other) in
-    ap (λ (d : Control). frame_uses_time_of d) same
+    let i = h.0.standing.frame in
+    let l = h.1.standing.frame in
+    let o = h.2.standing.frame in
+    let plain : (x : FrameState) → x.nested ≡ None → (current x).control ≡ x.control = λ x e. ap (λ (n : Option holes.Nested). (current_in n x).control) e in
+    let nested : k.standing.frame.nested ≡ None = ap (λ (x : FrameState). x.nested) o.is ∙ l.other in
+    ap time_of (plain j.standing.frame l.plain ∙ l.control)
+    ∙ (λ n. not (bit_and (o.alike.same 228 refl n) timer_bits == 0) || fetches_time (fetch_at code i.control.pc))
+    ∙ sym (ap (λ (x : FrameState). time_of x.control) o.is) ∙ sym (ap time_of (plain k.standing.frame nested))
   where
-    frame_uses_time_of : Control → Bool
-    frame_uses_time_of d = not (bit_and (special_of d number.intenable) timer_bits == 0) || fetches_time (fetch_at code d.pc)
+    time_of : Control → Bool
+    time_of d = not (bit_and (special_of d number.intenable) timer_bits == 0) || fetches_time (fetch_at code d.pc)
 
 -- a judge that knows so much of its core
 abbrev pub judge_with : Walked → HandlerPhase → (ℕ → Bool) → Fate → Judge
@@ -320,19 +266,41 @@ module _ (code : ℕ → ℕ) (other : Range) (c : ℕ) (rec : StepRecord) where
   same_stands [] old new none e go k h = e ∙ ap (λ (j : Judge). judge_past code other c j rec) h
   same_stands (m ∷ ms) old new none e go k h = absurd (omega (arith, none))
 
-  -- and without dead registers
+  abbrev place : Judge → ℕ
+  place j = j.standing.frame.control.pc
+
+  -- and without dead registers, of which SCOMPARE1 is forgotten too if it is dead there
   pub less_stands : (ms : List ℕ) (old past new : Judge) → 0 < length ms → IsOuter old.standing.phase rec → past ≡ judge_past code other c old rec
       → (goes past.fate ≡ true → IsOnStack old.bounds old.standing.frame × IsOnStack past.bounds past.standing.frame)
-      → new.fate ≡ past.fate → (past.standing.frame.nested ≡ None → IsFewerJudge new past) → StandsPast code ms other c rec old new
-  less_stands [] old past new some outer e stacks same fewer go k h = absurd (omega (arith, some))
-  less_stands (m ∷ ms) old past new some outer e stacks same fewer go k h =
+      → new.fate ≡ past.fate
+      → (past.standing.frame.nested ≡ None → IsFewerJudge new past ⊎ (IsFewerJudge new (without_compare past) × (has_compare (dead_at ms (place past)) ≡ true)))
+      → (old.standing.frame.nested ≡ None → past.standing.frame.nested ≡ None → has_compare (dead_at ms (place old)) ≡ true
+      → (fetches_compare (fetch_at code (place old)) ≡ false) × (IsWriting code rec old.standing.frame ⊎ (has_compare (dead_at ms (place past)) ≡ true)))
+      → StandsPast code ms other c rec old new
+  less_stands [] old past new some outer e stacks same fewer fit go k h = absurd (omega (arith, some))
+  less_stands (m ∷ ms) old past new some outer e stacks same fewer fit go k h =
       let here : goes past.fate ≡ true = ap goes (sym same) ∙ go in
       let there : goes (judge_past code other c old rec).fate ≡ true = ap (λ (j : Judge). goes j.fate) (sym e) ∙ here in
       let on = stacks here in
       let later = past_on old there (subst (λ (j : Judge). IsOnStack j.bounds j.standing.frame) e on.1) in
-      let more = judge_fewer old k h code other c rec outer on.0 later there in
-      let less : IsFewerJudge past (judge_past code other c k rec) = subst (λ (j : Judge). IsFewerJudge j (judge_past code other c k rec)) (sym e) more in
-      fewer_judges new past (judge_past code other c k rec) (fewer less.standing.frame.plain) less
+      let plain : past.standing.frame.nested ≡ None =
+      ap (λ (j : Judge). j.standing.frame.nested) e ∙ (judge_fewer old h.0 h.1 code other c rec outer on.0 later there).standing.frame.plain in
+      let fits = fit h.1.standing.frame.plain plain in
+      let both =
+      both_past code (m ∷ ms) other c rec old h.0 k h.1 h.2 outer on.0 later there (λ d. (fits d).0)
+      (λ d. subst (λ (j : Judge). IsWriting code rec old.standing.frame ⊎ (has_compare (dead_at (m ∷ ms) (place j)) ≡ true)) e (fits d).1)
+      in
+      let mid = judge_past code other c h.0 rec in
+      let less : IsFewerJudge past mid = subst (λ (j : Judge). IsFewerJudge j mid) (sym e) both.0 in
+      ⊎_elim
+      (λ (f : IsFewerJudge new past).
+      let r : IsKeptJudge (m ∷ ms) new (judge_past code other c k rec) = (mid, fewer_judges new past mid f less, both.1) in r)
+      (λ (f : IsFewerJudge new (without_compare past) × (has_compare (dead_at (m ∷ ms) (place past)) ≡ true)).
+      let dead : has_compare (dead_at (m ∷ ms) (place mid)) ≡ true = sym (ap (λ (d : Control). has_compare (dead_at (m ∷ ms) d.pc)) less.standing.frame.control) ∙ f.1 in
+      let r : IsKeptJudge (m ∷ ms) new (judge_past code other c k rec) =
+      (without_compare mid, fewer_judges new (without_compare past) (without_compare mid) f.0 (fewer_without past mid less), other_without (m ∷ ms) mid (judge_past code other c k rec) both.1 dead) in
+      r)
+      (fewer less.standing.frame.plain)
 
 -- ---- two cores
 

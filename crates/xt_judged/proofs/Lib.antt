@@ -16,6 +16,8 @@ pub mod Timed
 pub mod Untimed
 pub mod Stepping
 pub mod Sight
+pub mod Written
+pub mod Compared
 pub mod Clocked
 pub mod Once
 pub mod Within
@@ -33,5 +35,9 @@ pub mod Words
 pub mod Windows
 pub mod Fewer
 pub mod FewerJudges
+pub mod OneFewer
+pub mod LikeJudges
+pub mod CompareSteps
 pub mod FewerOrders
+pub mod GonePast
 pub mod FewerTurns

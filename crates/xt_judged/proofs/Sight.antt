@@ -25,11 +25,13 @@ use Rattle.xt_frames.specs.SaveAreas.{Range}
 use Rattle.xt_frames.specs.Breaches.{Bounds, breach_of, breaks_nested, fetched_return_breach, fetched_tests, first_shown, fresh_after, has_no_caller, inputs_of, insn_tests, is_movsp, is_return, is_underflow, is_windowing, laid_breach, leaves_range, loads_stale, loses_epc1, misaligns_sp, names_high, names_window_register, opens_nothing, other_frame_size, other_tests, reads_none_in, returns_elsewhere, stale_after, test, touches_save_area, vector_test, window_breach, writes_sp}
 use Rattle.xt_frames.specs.Judging.{Standing, Seen, Handled, Judges, Breaks, fresh_on, handled_record, live_of, seen_record, seen_in, seen_judged, seen_step, seen_window, step_on}
 use Rattle.xt_timeless.specs.Time.{fetches_time, timer_bits}
-use Rattle.xt_timeless.specs.Alike.{AreAlike}
-use Rattle.xt_timeless.proofs.Keeping.{kept_pending, with_special}
+use Rattle.xt_timeless.specs.Alike.{AreAlike, Clocks, Difference, fetches_difference}
+use Rattle.xt_map.proofs.Fetches.{fetched_range}
+use Rattle.xt_timeless.proofs.Keeping.{with_special}
 use Rattle.xt_judged.specs.Timeless.{frame_uses_time}
-use Rattle.xt_judged.proofs.Untimed.{AreKeptTurns, IsKeptFrame}
-use Rattle.xt_judged.proofs.Stepping.{current_kept, found_kept, found_turns, on_kept, unlike_special}
+use Rattle.xt_judged.proofs.Untimed.{AreKeptTurns, AreRanged, IsQuiet, kept_level}
+use Rattle.xt_judged.specs.Forgotten.{IsKeptFrame}
+use Rattle.xt_judged.proofs.Stepping.{IsSameTime, current_kept, found_kept, found_turns, on_kept, unlike_special}
 
 -- ---- tests on a state and on the same state with another list of special registers
 
@@ -74,7 +76,7 @@ module _ (p : FrameState) (l : List ℕ) where
 
   -- ---- and after a step
 
-  module _ (u v : FrameTurn) (k : AreKeptTurns u v) (b : Bounds) (fresh : Bool) (live stale : ℕ → Bool) (rec : StepRecord) (ccount interrupt : ℕ) where
+  module _ {gap : Difference} (u v : FrameTurn) (k : AreKeptTurns gap u v) (b : Bounds) (fresh : Bool) (live stale : ℕ → Bool) (rec : StepRecord) (ccount interrupt : ℕ) where
     abbrev rec' : StepRecord
     rec' = record rec { ccount = ccount; interrupt = interrupt }
 
@@ -128,41 +130,41 @@ module _ (p : FrameState) (l : List ℕ) where
 
 -- ---- the first breach of a record
 
-module _ (code : ℕ → ℕ) (bytes : AreBytes code) (b : Bounds) (fresh : Bool) (live stale : ℕ → Bool) (rec : StepRecord) (ccount interrupt : ℕ) where
-  laid_shown : (p : FrameState) (l : List ℕ) → AreAlike true p.control.special l → bit_and (special_of p.control 228) timer_bits ≡ 0
-      → AreKeptTurns (step_with_inputs code rec.reply p) (step_with_inputs code rec.reply (record p { control = with_special p.control l }))
+module _ {gap : Difference} (code : ℕ → ℕ) (b : Bounds) (fresh : Bool) (live stale : ℕ → Bool) (rec : StepRecord) (ccount interrupt : ℕ) where
+  laid_shown : (p : FrameState) (l : List ℕ) → AreAlike gap p.control.special l → IsQuiet gap (special_of p.control 228)
+      → AreKeptTurns gap (step_with_inputs code rec.reply p) (step_with_inputs code rec.reply (record p { control = with_special p.control l }))
       → laid_breach b fresh code live stale rec p ≡ laid_breach b fresh code live stale (record rec { ccount = ccount; interrupt = interrupt }) (record p { control = with_special p.control l })
   unfolding laid_breach
   laid_shown p l a none k =
-      let pending = kept_pending p.control l a none in
+      let pending = kept_level gap p.control l a none in
       let q : FrameState = record p { control = with_special p.control l } in
       let tests = tests_same p l (step_with_inputs code rec.reply p) (step_with_inputs code rec.reply q) k b fresh live stale rec ccount interrupt (fetch_at code p.control.pc) in
       λ j. cond (nat_lt 0 (pending j) || p.control.waits) (first_shown (vector_test b p ∷ [])) (first_shown (tests j))
 
-  shown_same : (p q : FrameState) → IsKeptFrame p q → bit_and (special_of p.control 228) timer_bits ≡ 0 → AreKeptTurns (step_with_inputs code rec.reply p) (step_with_inputs code rec.reply q)
+  shown_same : (p q : FrameState) → IsKeptFrame gap p q → IsQuiet gap (special_of p.control 228) → AreKeptTurns gap (step_with_inputs code rec.reply p) (step_with_inputs code rec.reply q)
       → laid_breach b fresh code live stale rec p ≡ laid_breach b fresh code live stale (record rec { ccount = ccount; interrupt = interrupt }) q
   shown_same p q k none turns =
-      laid_shown p k.list k.alike none (subst (λ (s : FrameState). AreKeptTurns (step_with_inputs code rec.reply p) (step_with_inputs code rec.reply s)) k.is turns)
+      laid_shown p k.list k.alike none (subst (λ (s : FrameState). AreKeptTurns gap (step_with_inputs code rec.reply p) (step_with_inputs code rec.reply s)) k.is turns)
       ∙ ap (laid_breach b fresh code live stale (record rec { ccount = ccount; interrupt = interrupt })) (sym k.is)
 
 -- ---- what the judge sees
 
-pub record IsKeptStanding (s t : Standing) : Type 0 where
-  pub frame : IsKeptFrame s.frame t.frame
+pub record IsKeptStanding (gap : Difference) (s t : Standing) : Type 0 where
+  pub frame : IsKeptFrame gap s.frame t.frame
   pub fresh : s.fresh ≡ t.fresh
   pub phase : s.phase ≡ t.phase
 
-abbrev pub IsKeptSeen : Seen → Seen → Type 0
-IsKeptSeen (Handled s) (Handled t) = IsKeptStanding s t
-IsKeptSeen (Judges s a) (Judges t b) = IsKeptStanding s t × (a ≡ b)
-IsKeptSeen (Breaks k) (Breaks l) = k ≡ l
-IsKeptSeen _ _ = ⊥
+abbrev pub IsKeptSeen : Difference → Seen → Seen → Type 0
+IsKeptSeen gap (Handled s) (Handled t) = IsKeptStanding gap s t
+IsKeptSeen gap (Judges s a) (Judges t b) = IsKeptStanding gap s t × (a ≡ b)
+IsKeptSeen gap (Breaks k) (Breaks l) = k ≡ l
+IsKeptSeen gap _ _ = ⊥
 
-chosen_seen : (c : Bool) (s t x y : Seen) → IsKeptSeen s t → IsKeptSeen x y → IsKeptSeen (cond c s x) (cond c t y)
-chosen_seen true s t x y h k = h
-chosen_seen false s t x y h k = k
+chosen_seen : (gap : Difference) (c : Bool) (s t x y : Seen) → IsKeptSeen gap s t → IsKeptSeen gap x y → IsKeptSeen gap (cond c s x) (cond c t y)
+chosen_seen gap true s t x y h k = h
+chosen_seen gap false s t x y h k = k
 
-window_seen : (k : Option BreachKind) (f g : FrameState) → IsKeptFrame f g → IsKeptSeen (seen_window k f) (seen_window k g)
+window_seen : {gap : Difference} → (k : Option BreachKind) (f g : FrameState) → IsKeptFrame gap f g → IsKeptSeen gap (seen_window k f) (seen_window k g)
 window_seen None f g h = record { frame = h; fresh = refl; phase = refl }
 window_seen (Some kind) f g h = refl
 
@@ -189,35 +191,28 @@ not_used x b h = let parts = or_parts (not (eqb x 0)) b h in (eqb-true x 0 (nega
     negated true e = refl
     negated false e = absurd (true≢false e)
 
-module _ (code : ℕ → ℕ) (bytes : AreBytes code) (b : Bounds) (f : FrameState) (ys : List ℕ) (a : AreAlike true f.control.special ys) (fresh : Bool) (others stale : ℕ → Bool) (rec : StepRecord)
-    (ccount interrupt : ℕ) (same : without_bits rec.interrupt timer_bits ≡ without_bits interrupt timer_bits) (free : frame_uses_time code f ≡ false) where
+module _ {gap : Difference} (code : ℕ → ℕ) (ranged : AreRanged gap code) (b : Bounds) (f : FrameState) (ys : List ℕ) (a : AreAlike gap f.control.special ys) (fresh : Bool) (others stale : ℕ → Bool)
+    (rec : StepRecord) (ccount interrupt : ℕ) (same : IsSameTime gap rec ccount interrupt) (none : IsQuiet gap (special_of (with_inputs (inputs_of rec) (current f)).control 228))
+    (untold : fetches_difference gap (fetch_at code (current f).control.pc) ≡ false) where
   abbrev g : FrameState
   g = record f { control = with_special f.control ys }
 
   abbrev other : StepRecord
   other = record rec { ccount = ccount; interrupt = interrupt }
 
-  none : bit_and (special_of (with_inputs (inputs_of rec) (current f)).control 228) timer_bits ≡ 0
-  none =
-      ap (λ (v : ℕ). bit_and v timer_bits) (enabled_laid (current f).control.special rec.ccount rec.interrupt)
-      ∙ (not_used (bit_and (special_of (current f).control 228) timer_bits) (fetches_time (fetch_at code (current f).control.pc)) free).0
-
-  untold : fetches_time (fetch_at code (current f).control.pc) ≡ false
-  untold = (not_used (bit_and (special_of (current f).control 228) timer_bits) (fetches_time (fetch_at code (current f).control.pc)) free).1
-
-  found : IsKeptFrame (with_inputs (inputs_of rec) (current f)) (with_inputs (inputs_of other) (current g))
+  found : IsKeptFrame gap (with_inputs (inputs_of rec) (current f)) (with_inputs (inputs_of other) (current g))
   found = found_kept f ys a rec ccount interrupt same f.nested
 
-  steps : (nested : Bool) → AreKeptTurns (step_on code nested rec f) (step_on code nested other g)
-  steps nested = on_kept f ys a rec ccount interrupt same code bytes nested none untold
+  steps : (nested : Bool) → AreKeptTurns gap (step_on code nested rec f) (step_on code nested other g)
+  steps nested = on_kept f ys a rec ccount interrupt same code ranged nested none untold
 
-  found_steps : AreKeptTurns (step_with_inputs code rec.reply (with_inputs (inputs_of rec) (current f))) (step_with_inputs code rec.reply (with_inputs (inputs_of other) (current g)))
-  found_steps = found_turns f ys a rec ccount interrupt same code bytes none untold
+  found_steps : AreKeptTurns gap (step_with_inputs code rec.reply (with_inputs (inputs_of rec) (current f))) (step_with_inputs code rec.reply (with_inputs (inputs_of other) (current g)))
+  found_steps = found_turns f ys a rec ccount interrupt same code ranged none untold
 
   breach_kept : (live : ℕ → Bool) (nested : Bool) → breach_of b fresh code live stale nested rec f ≡ breach_of b fresh code live stale nested other g
   breach_kept live nested =
       ap (cond (begins nested rec.kind f) None)
-      (shown_same code bytes b fresh live stale rec ccount interrupt (with_inputs (inputs_of rec) (current f)) (with_inputs (inputs_of other) (current g)) found none found_steps)
+      (shown_same code b fresh live stale rec ccount interrupt (with_inputs (inputs_of rec) (current f)) (with_inputs (inputs_of other) (current g)) found none found_steps)
 
   fresh_kept : (nested : Bool) → fresh_on fresh code nested rec f ≡ fresh_on fresh code nested other g
   fresh_kept nested =
@@ -240,34 +235,34 @@ module _ (code : ℕ → ℕ) (bytes : AreBytes code) (b : Bounds) (f : FrameSta
   phase_kept Nested = refl
 
   step_seen : (m : HandlerPhase) (nested : Bool) (k : Option BreachKind)
-      → IsKeptSeen (seen_step k code b (record { frame = f; fresh = fresh; phase = m }) others stale nested rec) (seen_step k code b (record { frame = g; fresh = fresh; phase = m }) others stale nested other)
+      → IsKeptSeen gap (seen_step k code b (record { frame = f; fresh = fresh; phase = m }) others stale nested rec) (seen_step k code b (record { frame = g; fresh = fresh; phase = m }) others stale nested other)
   step_seen m nested None = (record { frame = (steps nested).after; fresh = fresh_kept nested; phase = phase_kept m }, stale_kept nested)
   step_seen m nested (Some kind) = refl
 
   judged_seen : (m : HandlerPhase) (nested : Bool)
-      → IsKeptSeen (seen_judged code b (record { frame = f; fresh = fresh; phase = m }) others stale nested rec) (seen_judged code b (record { frame = g; fresh = fresh; phase = m }) others stale nested other)
+      → IsKeptSeen gap (seen_judged code b (record { frame = f; fresh = fresh; phase = m }) others stale nested rec) (seen_judged code b (record { frame = g; fresh = fresh; phase = m }) others stale nested other)
   judged_seen m nested =
       let k = breach_of b fresh code (live_of b f others) stale nested rec f in
       subst
       (λ (l : Option BreachKind).
-      IsKeptSeen (seen_step k code b (record { frame = f; fresh = fresh; phase = m }) others stale nested rec) (seen_step l code b (record { frame = g; fresh = fresh; phase = m }) others stale nested other))
+      IsKeptSeen gap (seen_step k code b (record { frame = f; fresh = fresh; phase = m }) others stale nested rec) (seen_step l code b (record { frame = g; fresh = fresh; phase = m }) others stale nested other))
       (breach_kept (live_of b f others) nested) (step_seen m nested k)
 
   window_kept : window_breach code rec.kind (with_inputs (inputs_of rec) (current f)) ≡ window_breach code rec.kind (with_inputs (inputs_of other) (current g))
   window_kept = window_shown (with_inputs (inputs_of rec) (current f)) found.list code rec.kind ∙ ap (window_breach code rec.kind) (sym found.is)
 
-  itself : IsKeptFrame f g
+  itself : IsKeptFrame gap f g
   itself = record { list = ys; alike = a; is = refl }
 
-  pub phase_seen : (m : HandlerPhase) → IsKeptSeen (seen_in m code b (record { frame = f; fresh = fresh; phase = m }) others stale rec) (seen_in m code b (record { frame = g; fresh = fresh; phase = m }) others stale other)
+  pub phase_seen : (m : HandlerPhase) → IsKeptSeen gap (seen_in m code b (record { frame = f; fresh = fresh; phase = m }) others stale rec) (seen_in m code b (record { frame = g; fresh = fresh; phase = m }) others stale other)
   phase_seen Outside =
-      chosen_seen (is_window rec.kind) (seen_window (window_breach code rec.kind (with_inputs (inputs_of rec) (current f))) f) (seen_window (window_breach code rec.kind (with_inputs (inputs_of other) (current g))) g)
+      chosen_seen gap (is_window rec.kind) (seen_window (window_breach code rec.kind (with_inputs (inputs_of rec) (current f))) f) (seen_window (window_breach code rec.kind (with_inputs (inputs_of other) (current g))) g)
       (seen_judged code b (record { frame = f; fresh = fresh; phase = Outside }) others stale false rec) (seen_judged code b (record { frame = g; fresh = fresh; phase = Outside }) others stale false other)
-      (subst (λ (l : Option BreachKind). IsKeptSeen (seen_window (window_breach code rec.kind (with_inputs (inputs_of rec) (current f))) f) (seen_window l g)) window_kept
+      (subst (λ (l : Option BreachKind). IsKeptSeen gap (seen_window (window_breach code rec.kind (with_inputs (inputs_of rec) (current f))) f) (seen_window l g)) window_kept
       (window_seen (window_breach code rec.kind (with_inputs (inputs_of rec) (current f))) f g itself))
       (judged_seen Outside false)
   phase_seen InHandler =
-      chosen_seen (is_nesting rec.kind) (seen_judged code b (record { frame = f; fresh = fresh; phase = InHandler }) others stale true rec)
+      chosen_seen gap (is_nesting rec.kind) (seen_judged code b (record { frame = f; fresh = fresh; phase = InHandler }) others stale true rec)
       (seen_judged code b (record { frame = g; fresh = fresh; phase = InHandler }) others stale true other)
       (handled_record code (record { frame = f; fresh = fresh; phase = InHandler }) rec) (handled_record code (record { frame = g; fresh = fresh; phase = InHandler }) other)
       (judged_seen InHandler true) (record { frame = itself; fresh = refl; phase = refl })
@@ -278,13 +273,31 @@ pub record IsSameRecord (x y : StepRecord) : Type 0 where
   pub is : y ≡ record x { ccount = y.ccount; interrupt = y.interrupt }
   pub interrupt : without_bits x.interrupt timer_bits ≡ without_bits y.interrupt timer_bits
 
-pub seen_kept : (code : ℕ → ℕ) (b : Bounds) (s t : Standing) (others stale : ℕ → Bool) (x y : StepRecord) → AreBytes code → IsKeptStanding s t → IsSameRecord x y → frame_uses_time code s.frame ≡ false
-    → IsKeptSeen (seen_record code b s others stale x) (seen_record code b t others stale y)
-seen_kept code b s t others stale x y bytes k r free =
+-- the same but for what may differ
+pub seen_alike : {gap : Difference} (code : ℕ → ℕ) (b : Bounds) (s t : Standing) (others stale : ℕ → Bool) (x y : StepRecord) → AreRanged gap code → IsKeptStanding gap s t
+    → y ≡ record x { ccount = y.ccount; interrupt = y.interrupt } → IsSameTime gap x y.ccount y.interrupt → IsQuiet gap (special_of (with_inputs (inputs_of x) (current s.frame)).control 228)
+    → fetches_difference gap (fetch_at code (current s.frame).control.pc) ≡ false → IsKeptSeen gap (seen_record code b s others stale x) (seen_record code b t others stale y)
+seen_alike {gap} code b s t others stale x y ranged k is time none untold =
     let frame = k.frame in
-    let T : Standing → StepRecord → Type 0 = λ z w. IsKeptSeen (seen_record code b s others stale x) (seen_record code b z others stale w) in
+    let T : Standing → StepRecord → Type 0 = λ z w. IsKeptSeen gap (seen_record code b s others stale x) (seen_record code b z others stale w) in
     let u : Standing = record { frame = record s.frame { control = with_special s.frame.control frame.list }; fresh = s.fresh; phase = s.phase } in
     let make : FrameState → Bool → HandlerPhase → Standing = λ f e m. record { frame = f; fresh = e; phase = m } in
     let same : u ≡ t = λ i. make ((sym frame.is) i) (k.fresh i) (k.phase i) in
-    let here = phase_seen code bytes b s.frame frame.list frame.alike s.fresh others stale x y.ccount y.interrupt r.interrupt free s.phase in
-    subst (λ (w : StepRecord). T t w) (sym r.is) (subst (λ (z : Standing). T z (record x { ccount = y.ccount; interrupt = y.interrupt })) same here)
+    let here = phase_seen code ranged b s.frame frame.list frame.alike s.fresh others stale x y.ccount y.interrupt time none untold s.phase in
+    subst (λ (w : StepRecord). T t w) (sym is) (subst (λ (z : Standing). T z (record x { ccount = y.ccount; interrupt = y.interrupt })) same here)
+
+-- but for time
+pub seen_kept : (code : ℕ → ℕ) (b : Bounds) (s t : Standing) (others stale : ℕ → Bool) (x y : StepRecord) → AreBytes code → IsKeptStanding Clocks s t → IsSameRecord x y → frame_uses_time code s.frame ≡ false
+    → IsKeptSeen Clocks (seen_record code b s others stale x) (seen_record code b t others stale y)
+seen_kept code b s t others stale x y bytes k r free =
+    let f = s.frame in
+    let parts = not_used (bit_and (special_of (current f).control 228) timer_bits) (fetches_time (fetch_at code (current f).control.pc)) free in
+    seen_alike code b s t others stale x y (λ pc i len e. fetched_range code pc i len bytes e) k r.is
+    (record { bits = r.interrupt; levels = λ h. absurd (true≢false h); count = λ h. absurd (true≢false h) })
+    (ap (λ (v : ℕ). bit_and v timer_bits) (enabled_laid (current f).control.special x.ccount x.interrupt) ∙ parts.0)
+    (by_fetched (fetch_at code (current f).control.pc) parts.1)
+  where
+    by_fetched : (at : Fetched) → fetches_time at ≡ false → fetches_difference Clocks at ≡ false
+    by_fetched (Fetches i len) h = h
+    by_fetched (Fails address) h = refl
+    by_fetched SpellsNothing h = refl

@@ -31,6 +31,7 @@ use Rattle.xt_judged.specs.Scenes.{Scene, opening_scene, scene_bars, scene_past,
 use Rattle.xt_judged.specs.Runs.{IsVerdictOf}
 use Rattle.xt_judged.proofs.Verdicts.{verdict_is}
 use Rattle.xt_judged.proofs.Clocked as clocked
+use Rattle.xt_timeless.specs.Alike.{Clocks}
 use Rattle.xt_judged.proofs.Sight.{IsKeptStanding}
 use Rattle.xt_judged.proofs.Timed as timed
 use Rattle.xt_judged.proofs.Walking.{ones_are, walked}
@@ -90,7 +91,7 @@ none_breaks P code b0 b1 f0 f1 o r free is =
     (world_at_start o) (opening_known f0 f1) opening r.trace0.records r.trace1.records refl refl ((placed P o r is).calls1 ∙ ones_are r.history is.cores)
     (record { spot = refl; standing0 = refl; standing1 = refl; stale = refl; reached = ([], tt, refl) }) refl (own_walk P o r is)
 
-opens_so : (f : FrameState) → IsKeptStanding (opening_standing f) (opening_standing f)
+opens_so : (f : FrameState) → IsKeptStanding Clocks (opening_standing f) (opening_standing f)
 opens_so f = record { frame = record { list = f.control.special; alike = alike_refl f.control.special; is = refl }; fresh = refl; phase = refl }
 
 -- the same where time belongs to no scene, whatever turns the cores have, where no turn uses time

@@ -5,6 +5,10 @@ use Rattle.std.specs.Prelude.{◌||◌, ◌&&◌, not}
 use Rattle.xt_map.specs.declared.contents.MemoryContents.{MemoryContents}
 use Rattle.xt_trace.specs.declared.record.StepRecord.{StepRecord}
 use Rattle.xt_exec.specs.Chips.{processor}
+use Rattle.xt_map.specs.Fetching.{fetch_at}
+use Rattle.xt_special.specs.Interrupts.{pending_of}
+use Rattle.xt_frames.specs.Breaches.{inputs_of}
+use Rattle.xt_frames.specs.FrameStep.{with_inputs}
 use Rattle.xt_frames.specs.declared.kinds.HandlerPhase.{HandlerPhase}
 use Rattle.xt_frames.specs.declared.kinds.HandlerPhase.TheVariants.{InHandler, Nested, Outside}
 use Rattle.xt_frames.specs.Frames.{Frame, FrameState, value_or_zero}
@@ -12,7 +16,9 @@ use Rattle.xt_frames.specs.Judging.{Standing}
 use Rattle.xt_frames.specs.Nesting.{is_nesting}
 use Rattle.xt_frames.specs.SaveAreas.{Range}
 use Rattle.xt_frames.specs.Walked.{Walked}
-use Rattle.xt_outcomes.specs.Dead.{spot_forgotten}
+use Rattle.xt_timeless.specs.Alike.{AreAlike, Compare, Difference}
+use Rattle.xt_timeless.specs.Time.{executes, fetches_compare, fetches_write}
+use Rattle.xt_outcomes.specs.Dead.{dead_at, has_compare, is_compare_fit, spot_forgotten}
 use Rattle.xt_outcomes.specs.KeptWorlds.{moved_spot}
 use Rattle.xt_outcomes.specs.Nexts.{misfits}
 use Rattle.xt_outcomes.specs.declared.places.Place.{Place}
@@ -60,6 +66,25 @@ pub record IsFewerJudge (j k : Judge) : Type 0 where
   pub stale : j.stale ≡ k.stale
   pub fate : j.fate ≡ k.fate
 
+-- the second state is the first but for what may differ
+pub record IsKeptFrame (gap : Difference) (f g : FrameState) : Type 0 where
+  pub list : List ℕ
+  pub alike : AreAlike gap f.control.special list
+  pub is : g ≡ record f { control = record f.control { special = list } }
+
+-- SCOMPARE1 may be another, if it is dead where the frame is
+pub record IsOtherStanding (ms : List ℕ) (s t : Standing) : Type 0 where
+  pub frame : IsKeptFrame Compare s.frame t.frame
+  pub live : has_compare (dead_at ms s.frame.control.pc) ≡ false → s.frame ≡ t.frame
+  pub fresh : s.fresh ≡ t.fresh
+  pub phase : s.phase ≡ t.phase
+
+pub record IsOtherJudge (ms : List ℕ) (j k : Judge) : Type 0 where
+  pub standing : IsOtherStanding ms j.standing k.standing
+  pub bounds : j.bounds ≡ k.bounds
+  pub stale : j.stale ≡ k.stale
+  pub fate : j.fate ≡ k.fate
+
 -- fewer registers are known of the core, and all else is the same
 pub record IsForgotten (old new : Walked) : Type 0 where
   pub is : new ≡ record old { state = record old.state { seen = new.state.seen } }
@@ -72,12 +97,29 @@ IsOuter Outside rec = Unit {0}
 IsOuter InHandler rec = is_nesting rec.kind ≡ false
 IsOuter Nested rec = ⊥
 
+-- ---- a dead SCOMPARE1
+
+-- the turn of the core with this record, which leads to this program counter, fits it
+abbrev pub IsCompareFit : (ℕ → ℕ) → List ℕ → StepRecord → ℕ → Type 0
+IsCompareFit code ms rec pc =
+    let at = fetch_at code rec.pc in
+    is_compare_fit (dead_at ms rec.pc) (fetches_compare at) (executes rec.kind && fetches_write at)
+    (dead_at ms pc) ≡ true
+
+-- The step on the record starts from where the core's turn does, which leads to where it is not
+-- dead, and executes what is there.
+pub record IsRevived (ms : List ℕ) (f : FrameState) (rec : StepRecord) (from pc : ℕ) : Type 0 where
+  pub here : from ≡ rec.pc
+  pub live : has_compare (dead_at ms pc) ≡ false
+  pub level : pending_of (with_inputs (inputs_of rec) f).control ≡ 0
+  pub awake : f.control.waits ≡ false
+
 -- ---- what stands for another
 
--- where no register is dead, the same judge
+-- where no register is dead, the same judge; fewer registers are known of one that has another SCOMPARE1
 abbrev pub IsKeptJudge : List ℕ → Judge → Judge → Type 0
 IsKeptJudge [] j k = j ≡ k
-IsKeptJudge (m ∷ ms) j k = IsFewerJudge j k
+IsKeptJudge (m ∷ ms) j k = (i : Judge) × IsFewerJudge j i × IsOtherJudge (m ∷ ms) i k
 
 -- if the judge goes on past the record, it stands there for each for which the old one stood
 abbrev pub StandsPast : (ℕ → ℕ) → List ℕ → Range → ℕ → StepRecord → Judge → Judge → Type 0

@@ -1,6 +1,7 @@
 -- Carries a proof; nothing that a reader must believe.
 -- Lists of bytes, and which bytes stand in them.
 use Rattle.std.specs.Prelude.{ℕ, Bool, false, ◌==◌, ◌||◌, Option, Some, None, List, [], ◌∷◌}
+use Rattle.xt_map.specs.Touching.{touches}
 use Rattle.xt_map.specs.declared.access.Access.{Access}
 use Rattle.xt_frames.specs.Breaches.{stores_at}
 
@@ -17,3 +18,8 @@ renewed old (Some new) = new
 abbrev pub some_stored : List ℕ → Option Access → Bool
 some_stored [] access = false
 some_stored (b ∷ bs) access = stores_at access b || some_stored bs access
+
+-- one of the bytes is one of so many, from an address on
+abbrev pub some_touched : List ℕ → ℕ → ℕ → Bool
+some_touched [] from size = false
+some_touched (b ∷ bs) from size = touches from size b || some_touched bs from size

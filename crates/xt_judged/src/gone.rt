@@ -66,7 +66,7 @@ fn add_gone(
     ensures { OnOk result ((a : ℕ) → among stale.new a ≡ (among stale.old a || (touches from size a && not (is_live_in own.now (option_copied other.entry) a)))) }
 {
     let start = u64::from(from);
-    if !stale.holds_some(from, size) && !may_be_live_in(own, other, start, u64::from(size)) {
+    if !stale.has_some(from, size) && !may_be_live_in(own, other, start, u64::from(size)) {
         stale.add_run(from, size)?;
         return Ok(());
     }

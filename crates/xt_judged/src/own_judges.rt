@@ -1,11 +1,14 @@
 //! The judge of one core past a record, and two cores with their judges past a turn.
-ghost use Rattle.std.specs.Prelude.{◌≡◌, ◌<◌, ◌==◌, ◌||◌, not, None, true, false, IfOk, OnOk};
+ghost use Rattle.std.specs.Prelude.{◌≡◌, ◌<◌, ◌==◌, ◌&&◌, ◌||◌, ◌⊎◌, not, None, true, false, IfOk, OnOk};
+ghost use Rattle.xt_map.specs.Fetching.{fetch_at};
 ghost use Rattle.xt_map.specs.Memory.{constant_byte};
 ghost use Rattle.xt_map.specs.declared.contents.MemoryContents.{MemoryContents};
 ghost use Rattle.xt_search.specs.Changed.{contents_of};
+ghost use Rattle.xt_timeless.specs.Time.{fetches_compare};
+ghost use Rattle.xt_outcomes.specs.Dead.{dead_at, has_compare};
 ghost use Rattle.xt_outcomes.specs.KeptWorlds.{moved_spot, spot_of};
 ghost use Rattle.xt_judged.specs.Lives.{AreApart};
-ghost use Rattle.xt_judged.specs.Forgotten.{IsForgotten, IsOuter, StandsPast};
+ghost use Rattle.xt_judged.specs.Forgotten.{IsCompareFit, IsForgotten, IsOuter, IsRevived, StandsPast};
 ghost use Rattle.xt_judged.specs.OwnJudges.{goes, judge_past, range_of, with_judge};
 ghost use Rattle.xt_judged.specs.Past.{IsOnStack};
 ghost use Rattle.xt_judged.specs.Stales.{renewed};
@@ -18,10 +21,12 @@ use crate::stale::Stale;
 use crate::watched::{Fate, OwnJudge, Running, Watched, comes_to};
 use std::alloc::{AllocError, Global};
 use std::rc::Rc;
+use xt_codec::{Fetch, instruction_at};
 use xt_frames::{Frames, HandlerPhase, is_nesting};
 use xt_map::Constants;
-use xt_outcomes::{Dead, Part, Side};
+use xt_outcomes::{Dead, Part, Side, has_compare, registers_in};
 use xt_search::Changes;
+use xt_timeless::reads_compare;
 use xt_trace::{Stack, StepRecord};
 use xt_window::ring::bit;
 
@@ -60,6 +65,45 @@ fn forget_dead(frames: &mut Frames, phase: HandlerPhase, mask: u16)
     for i in 0..16u8 {
         forget_one(frames, mask, i);
     }
+}
+
+// Whether the instruction at a program counter, from which the turn of a record does not start, reads SCOMPARE1
+// though that is dead there.
+fn reads_dead(code: &Constants, dead: &Dead, rec: &StepRecord, from: u32) -> bool
+    ensures { result ≡ false → has_compare (dead_at dead.now.masks.items from) ≡ true → (from ≡ rec.now.pc) ⊎ (fetches_compare (fetch_at (constant_byte code.now) from) ≡ false) }
+{
+    if from == rec.pc {
+        return false;
+    }
+    if !has_compare(dead.at(from)) {
+        return false;
+    }
+    match instruction_at::<Frames>(code, from) {
+        Fetch::Insn(insn, _) => reads_compare(insn),
+        Fetch::Fails(_) => false,
+        Fetch::Nothing => false,
+    }
+}
+
+// Whether the step of these frames on a record, which starts from a program counter, executes what the turn of the
+// core executed, past which SCOMPARE1 is not dead.
+fn revives(frames: &Frames, dead: &Dead, rec: &StepRecord, from: u32, pc: u32) -> bool
+    ensures { result ≡ true → IsRevived dead.now.masks.items frames.now.state rec.now from pc }
+{
+    if from != rec.pc {
+        return false;
+    }
+    if has_compare(dead.at(pc)) {
+        return false;
+    }
+    frames.executes(rec)
+}
+
+// Whether SCOMPARE1 was dead before a step that does not write it, and is not dead after it.
+fn is_lost(before: bool, writes: bool, after: bool) -> bool
+    ensures { result ≡ (before && (not writes && not after)) }
+{
+    before && !writes && !after
 }
 
 // Becomes the stale bytes past a record: those before it, where there are no others.
@@ -152,7 +196,10 @@ impl Running {
 
     /// Becomes the judge past a record of its core, which leads to this program counter, with the frames of
     /// the core, without the registers that are dead there. If some register is dead, it gives up at an
-    /// interrupt in handler steps. The only error is running out of memory.
+    /// interrupt in handler steps, and where SCOMPARE1 is dead for the core and not for its frames. The only
+    /// error is running out of memory.
+    ///
+    /// Condition: the turn of the record fits a dead SCOMPARE1.
     pub fn go_past(
         &mut self,
         alloc: Global,
@@ -164,19 +211,30 @@ impl Running {
         dead: &Dead,
         pc: u32,
     ) -> Result<(), AllocError>
-        requires { IsRunning frames.old self.old }
+        requires running { IsRunning frames.old self.old }
+        requires fit { IsCompareFit (constant_byte code.now) dead.now.masks.items rec.now pc }
         ensures stands { OnOk result (StandsPast (constant_byte code.now) dead.now.masks.items (range_of other) core rec.now (judge_at frames.old self.old) (judge_at frames.new self.new)) }
         ensures running { OnOk result (IsRunning frames.new self.new) }
     {
         if dead.masks.is_empty() {
             return self.past(alloc, code, frames, other, core, rec);
         }
-        if is_nested(self.phase, rec) {
+        let from = frames.current_pc();
+        if is_nested(self.phase, rec) || reads_dead(code, dead, rec, from) {
             self.fate = Fate::Crossed;
             return Ok(());
         }
+        let writes = revives(frames, dead, rec, from, pc);
         self.past(alloc, code, frames, other, core, rec)?;
-        forget_dead(frames, self.phase, dead.at(pc));
+        let after = dead.at(frames.current_pc());
+        if is_lost(has_compare(dead.at(from)), writes, has_compare(after)) {
+            self.fate = Fate::Crossed;
+            return Ok(());
+        }
+        forget_dead(frames, self.phase, registers_in(dead.at(pc)));
+        if has_compare(after) {
+            frames.clear_compare();
+        }
         Ok(())
     }
 }

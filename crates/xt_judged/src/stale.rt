@@ -2,9 +2,10 @@
 ghost use Rattle.std.specs.Prelude.{◌≡◌, ◌+◌, ◌≤◌, ◌<◌, ◌^◌, ◌||◌, ◌&&◌, ◌==◌, ℕ, true, IfOk, OnOk, length};
 ghost use Rattle.xt_map.specs.Touching.{touches};
 ghost use Rattle.xt_judged.specs.Past.{is_spared};
-ghost use Rattle.xt_judged.specs.Stales.{among, some_stored};
+ghost use Rattle.xt_judged.specs.Stales.{among, some_stored, some_touched};
 
 use crate::bytes::{is_spared, stores_at};
+use crate::live::touches;
 use std::alloc::{AllocError, Global};
 use std::marker::Model;
 use xt_discipline::Areas;
@@ -105,6 +106,18 @@ fn is_written(bytes: &[u32], access: Option<Access>) -> bool
     false
 }
 
+// Whether one of these bytes is one of so many, from an address on.
+fn some_touched(bytes: &[u32], from: u32, size: u32) -> bool
+    ensures { result ≡ some_touched bytes.now from size }
+{
+    for byte in bytes {
+        if touches(u64::from(from), u64::from(size), u64::from(*byte)) {
+            return true;
+        }
+    }
+    false
+}
+
 impl Stale {
     ghost use Rattle.std.specs.Prelude.{[]};
 
@@ -140,12 +153,10 @@ impl Stale {
     }
 
     /// Whether one of so many bytes, from an address on, is stale.
-    pub fn holds_some(&self, from: u32, size: u32) -> bool {
-        let place = place_of(self.bytes.as_slice(), from);
-        match self.bytes.get(place) {
-            Some(byte) => u64::from(*byte) < u64::from(from) + u64::from(size),
-            None => false,
-        }
+    pub fn has_some(&self, from: u32, size: u32) -> bool
+        ensures { result ≡ some_touched self.now from size }
+    {
+        some_touched(self.bytes.as_slice(), from, size)
     }
 
     /// Whether a store writes a stale byte.

@@ -3,21 +3,22 @@ ghost use Rattle.std.specs.Prelude.{◌≡◌, ◌<◌, ◌&&◌, not, true, fal
 ghost use Rattle.xt_map.specs.Memory.{constant_byte};
 ghost use Rattle.xt_map.specs.declared.contents.MemoryContents.{MemoryContents};
 ghost use Rattle.xt_search.specs.Changed.{contents_of};
-ghost use Rattle.xt_outcomes.specs.Ahead.{IsAhead};
+ghost use Rattle.xt_outcomes.specs.Ahead.{IsAhead, IsReady};
 ghost use Rattle.xt_outcomes.specs.Dead.{fits};
 ghost use Rattle.xt_outcomes.specs.KeptWorlds.{moved_spot, spot_of};
 ghost use Rattle.xt_outcomes.specs.Nexts.{misfits};
+ghost use Rattle.xt_outcomes.specs.Passages.{AreUses};
 ghost use Rattle.xt_judged.specs.Forgotten.{IsLed, IsOwnTurn, kept_bars};
 ghost use Rattle.xt_judged.specs.OwnJudges.{is_alone, is_over, other_range, own_in, range_of, uses_time, watched_bars, with_judge};
 ghost use Rattle.xt_judged.specs.WatchedKept.{AreSettled, IsRunning, judge_at, own_at, watched_of};
 
-use crate::clock::uses_time;
+use crate::clock::uses_time_by;
 use crate::judging::SceneDesk;
 use crate::own_judges::is_over;
 use crate::watched::{Running, Watched};
 use std::alloc::{AllocError, Global};
 use xt_frames::Frames;
-use xt_outcomes::{Ahead, Places, Side, Timed};
+use xt_outcomes::{Ahead, Places, Side, Timed, Uses, uses_at};
 use xt_search::{Changes, Machine};
 use xt_special::number;
 use xt_trace::Stack;
@@ -56,18 +57,27 @@ impl<'a> Watching<'a> {
         if core == 0 { self.stack1 } else { self.stack0 }
     }
 
-    // Whether the next turn of a core that makes one, with these frames, uses time.
-    fn bars(&self, side: &Side, frames: &Frames) -> bool
+    // Whether the next turn of a core that makes one, with these frames, uses time; the instruction at its
+    // program counter uses these.
+    fn bars(&self, side: &Side, frames: &Frames, uses: Uses) -> bool
+        requires { AreUses (constant_byte self.now.timed.code) side.now.state.control.pc uses }
         ensures { result ≡ uses_time (constant_byte self.now.timed.code) self.now.timed.timed side.now frames.now.state }
     {
         let code = &self.timed.code;
-        if side.bars(code, self.timed.timed) {
+        if side.bars_by(code, self.timed.timed, uses.reads_time) {
             return true;
         }
         if self.timed.timed {
             return false;
         }
-        uses_time(code, frames.special(number::INTENABLE), frames.current_pc())
+        let intenable = frames.special(number::INTENABLE);
+        uses_time_by(
+            code,
+            intenable,
+            frames.current_pc(),
+            side.pc(),
+            uses.reads_time,
+        )
     }
 
     // Whether the next turn of a core that makes one, with these frames, which is this turn, uses no time and
@@ -76,14 +86,16 @@ impl<'a> Watching<'a> {
         ensures { (m : MemoryContents) → IsAhead (constant_byte self.now.timed.code) side.now.state m ahead.now
             → result ≡ (not (uses_time (constant_byte self.now.timed.code) self.now.timed.timed side.now frames.now.state) && fits (constant_byte self.now.timed.code) self.now.timed.dead.masks.items side.now.state) }
     {
-        if self.bars(side, frames) {
+        let uses = uses_at(&self.timed.code, side.pc());
+        if self.bars(side, frames, uses) {
             return false;
         }
-        self.timed.fits_next(side, ahead)
+        self.timed.fits_next(side, ahead, uses)
     }
 
-    // Puts the next turn of a core, with these frames and this judge, in place of another one, and answers
-    // whether it makes that, the turn meets nothing of the other core, uses no time, and fits the dead registers.
+    // Puts the next turn of a core, with these frames and this judge, in place of another one, whose registers
+    // are those of the core, and answers whether it makes that, the turn meets nothing of the other core, uses
+    // no time, and fits the dead registers.
     fn local(
         &self,
         side: &Side,
@@ -93,6 +105,7 @@ impl<'a> Watching<'a> {
         core: u8,
         ahead: &mut Ahead,
     ) -> bool
+        requires ready { IsReady side.now.state ahead.old }
         ensures alone { result ≡ true → is_alone (constant_byte self.now.timed.code) self.now.timed.timed self.now.places.list.items core (own_at side.now frames.now judge.now) ≡ true }
         ensures fit { result ≡ true → misfits (constant_byte self.now.timed.code) self.now.timed.dead.masks.items side.now ≡ false }
         ensures ahead { result ≡ true → IsAhead (constant_byte self.now.timed.code) side.now.state (contents_of self.now.timed.opening.contents changes.now) ahead.new }
@@ -119,19 +132,19 @@ impl<'a> Watching<'a> {
         changes: &mut Changes,
         judge: &mut Running,
         core: u8,
-        ahead: &Ahead,
+        ahead: &mut Ahead,
     ) -> Result<(), AllocError>
         requires core { core < 2 }
         requires on { is_over (own_at side.old frames.old judge.old) ≡ false }
         requires free { watched_bars (constant_byte self.now.timed.code) self.now.timed.timed (own_at side.old frames.old judge.old) ≡ false }
         requires fit { misfits (constant_byte self.now.timed.code) self.now.timed.dead.masks.items side.old ≡ false }
-        requires ahead { IsAhead (constant_byte self.now.timed.code) side.old.state (contents_of self.now.timed.opening.contents changes.old) ahead.now }
+        requires ahead { IsAhead (constant_byte self.now.timed.code) side.old.state (contents_of self.now.timed.opening.contents changes.old) ahead.old }
         requires running { IsRunning frames.old judge.old }
         ensures turn { let t = self.now.timed in let m = t.opening.contents in
             OnOk result (IsOwnTurn (constant_byte t.code) t.dead.masks.items (range_of self.now.stack0) (range_of self.now.stack1) t.timed core (own_at side.old frames.old judge.old) (contents_of m changes.old) (own_at side.new frames.new judge.new) (contents_of m changes.new)) }
         ensures running { OnOk result (IsRunning frames.new judge.new) }
+        ensures ready { OnOk result (IsReady side.new.state ahead.new) }
     {
-        self.timed.go_on(side, ahead, changes)?;
         judge.go_past(
             self.alloc,
             &self.timed.code,
@@ -140,8 +153,9 @@ impl<'a> Watching<'a> {
             core,
             &ahead.record,
             &self.timed.dead,
-            side.pc(),
+            ahead.regs.pc,
         )?;
+        self.timed.go_on(side, ahead, changes)?;
         Ok(())
     }
 
@@ -188,14 +202,28 @@ impl<'a> Watching<'a> {
         if !self.is_free(&side, frames, &ahead) {
             return Ok(None);
         }
-        self.turn(frames, &mut side, &mut changes, &mut judge, core, &ahead)?;
+        self.turn(
+            frames,
+            &mut side,
+            &mut changes,
+            &mut judge,
+            core,
+            &mut ahead,
+        )?;
         let mut turns = 1;
         for made in 0..self.most_local {
             if !self.local(&side, &changes, frames, &judge, core, &mut ahead) {
                 let next = self.come_to(watched, core, side, changes, frames, judge, turns)?;
                 return Ok(Some(next));
             }
-            self.turn(frames, &mut side, &mut changes, &mut judge, core, &ahead)?;
+            self.turn(
+                frames,
+                &mut side,
+                &mut changes,
+                &mut judge,
+                core,
+                &mut ahead,
+            )?;
             turns += 1;
         }
         let next = self.come_to(watched, core, side, changes, frames, judge, turns)?;

@@ -13,7 +13,7 @@ use Rattle.xt_uses.specs.Words.{all_bits, masked}
 use Rattle.xt_uses.specs.UseLaws.{AgreeIn}
 use Rattle.xt_uses.proofs.Agreeing.{agree_none, cut_agrees}
 use Rattle.xt_timeless.specs.Time.{special_without_time, without_time}
-use Rattle.xt_timeless.specs.Alike.{may_differ}
+use Rattle.xt_timeless.specs.Alike.{Clocks, may_differ}
 use Rattle.xt_timeless.proofs.Lists.{cleared_alike}
 use Rattle.xt_simulation.specs.Knowledge.{Knowledge, StatesAgree}
 use Rattle.xt_simulation.proofs.SecretSpecials.{unequal}
@@ -53,8 +53,14 @@ one_cut masks xs at k less = ⊎_elim
 
 -- ---- special registers
 
-may_not_differ : (n : ℕ) → n ≢ 226 → is_clock n ≡ false → may_differ true n ≡ false
-may_not_differ n other clock = λ i. unequal n 226 other i || (clock i && true)
+may_not_differ : (n : ℕ) → n ≢ 226 → is_clock n ≡ false → may_differ Clocks n ≡ false
+may_not_differ n other clock =
+    (λ i. (unequal n 226 other i && true) || ((clock i && true) || (eqb n 12 && false)))
+    ∙ never (eqb n 12)
+  where
+    never : (b : Bool) → (b && false) ≡ false
+    never true = refl
+    never false = refl
 
 module _ (c : CoreMasks) (s t : State) (i : ℕ) (f : IsShaped s) (cut : IsCut c.regs s t) where
   abbrev m : Knowledge

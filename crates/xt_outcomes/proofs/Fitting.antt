@@ -4,12 +4,13 @@ use Rattle.std.specs.Prelude.{◌==◌}
 use Rattle.std.proofs.lemmas.Bool.{true≢false}
 use Rattle.xt_trace.specs.declared.record.RegWrite.{RegWrite}
 use Rattle.xt_trace.specs.declared.record.StepRecord.{StepRecord}
-use Rattle.xt_special.specs.Control.{Control}
-use Rattle.xt_map.specs.Fetching.{fetch_at}
+use Rattle.xt_map.specs.Fetching.{Fetched, fetch_at}
 use Rattle.xt_rows.specs.Settling.{write_with_reply}
 use Rattle.xt_exec.specs.State.{State}
 use Rattle.xt_exec.specs.Turn.{demand, planned_turn, turn, with_write}
-use Rattle.xt_outcomes.specs.Dead.{are_fit, dead_at, fits, is_live, reads_of}
+use Rattle.xt_trace.specs.declared.record.StepKind.{StepKind}
+use Rattle.xt_timeless.specs.Time.{executes, fetches_compare, fetches_write}
+use Rattle.xt_outcomes.specs.Dead.{are_fit, dead_at, fits, is_compare_fit, is_live, reads_of, registers_in}
 use Rattle.xt_outcomes.specs.Nexts.{misfits, next_bars}
 use Rattle.xt_outcomes.specs.Places.{is_local, is_own_access}
 use Rattle.xt_outcomes.specs.SpotRaces.{next_of}
@@ -26,26 +27,44 @@ control_stays None a = refl
 control_stays (Some w) a = refl
 
 module _ (code : ℕ → ℕ) (ms : List ℕ) (s : State) (reply : ℕ) where
-  abbrev test : State → Option RegWrite → Type 0
-  test u w = are_fit (dead_at ms s.control.pc) (reads_of (fetch_at code s.control.pc)) (u.base == s.base) w (dead_at ms u.control.pc) ≡ fits code ms s
+  abbrev before : ℕ
+  before = dead_at ms s.control.pc
 
-  turn_fits : test (turn code s reply).1 (turn code s reply).0.write
+  abbrev at : Fetched
+  at = fetch_at code s.control.pc
+
+  abbrev seen : State → Option RegWrite → StepKind → Bool
+  seen u w k =
+      are_fit (registers_in before) (reads_of at) (u.base == s.base) w (registers_in (dead_at ms u.control.pc))
+      && is_compare_fit before (fetches_compare at) (executes k && fetches_write at) (dead_at ms u.control.pc)
+
+  turn_kind : (turn code s reply).0.kind ≡ (planned_turn code s).kind
+  unfolding turn
+  turn_kind = refl
+
+  turn_fits : seen (turn code s reply).1 (turn code s reply).0.write (turn code s reply).0.kind ≡ fits code ms s
   turn_fits =
       let p = planned_turn code s in
-      let d = dead_at ms s.control.pc in
-      let o = reads_of (fetch_at code s.control.pc) in
+      let d = registers_in before in
+      let o = reads_of at in
       let w = (turn code s reply).0.write in
+      let kind = (turn code s reply).0.kind in
       let base : (turn code s reply).1.base ≡ p.after.base = ap (λ (u : State). u.base) (state_is code ms s reply) ∙ base_stays w p.after in
       let control : (turn code s reply).1.control ≡ p.after.control = ap (λ (u : State). u.control) (state_is code ms s reply) ∙ control_stays w p.after in
-      let later = dead_at ms p.after.control.pc in
-      ap (λ (b : ℕ). are_fit d o (b == s.base) w (dead_at ms (turn code s reply).1.control.pc)) base
-      ∙ ap (λ (c : Control). are_fit d o (p.after.base == s.base) w (dead_at ms c.pc)) control
-      ∙ ap (λ (v : Option RegWrite). are_fit d o (p.after.base == s.base) v later) (write_is code ms s reply)
-      ∙ (λ i. (d == 0) || (is_live d o.0 && (is_live d o.1 && ((p.after.base == s.base) && same_stay (write_with_reply p.write p.awaited reply) (write_with_reply p.write p.awaited 0) d later 16 (same_written p.write p.awaited reply 0) i))))
+      let last = dead_at ms p.after.control.pc in
+      let later = registers_in last in
+      let compare = is_compare_fit before (fetches_compare at) (executes p.kind && fetches_write at) last in
+      (λ i. are_fit d o (base i == s.base) w (registers_in (dead_at ms (control i).pc))
+      && is_compare_fit before (fetches_compare at) (executes (turn_kind i) && fetches_write at) (dead_at ms (control i).pc))
+      ∙ ap (λ (v : Option RegWrite). are_fit d o (p.after.base == s.base) v later && compare) (write_is code ms s reply)
+      ∙ (λ i. ((d == 0)
+      || (is_live d o.0
+      && (is_live d o.1
+      && ((p.after.base == s.base) && same_stay (write_with_reply p.write p.awaited reply) (write_with_reply p.write p.awaited 0) d later 16 (same_written p.write p.awaited reply 0) i))))
+      && compare)
 
-  pub fit_is : (x : StepRecord) (u : State) → (x, u) ≡ turn code s reply → test u x.write
-  fit_is x u e =
-      ap (λ (t : StepRecord × State). are_fit (dead_at ms s.control.pc) (reads_of (fetch_at code s.control.pc)) (t.1.base == s.base) t.0.write (dead_at ms t.1.control.pc)) e ∙ turn_fits
+  pub fit_is : (x : StepRecord) (u : State) → (x, u) ≡ turn code s reply → seen u x.write x.kind ≡ fits code ms s
+  fit_is x u e = ap (λ (t : StepRecord × State). seen t.1 t.0.write t.0.kind) e ∙ turn_fits
 
 -- ---- what is tested of a core
 

@@ -1,7 +1,7 @@
 -- What a search keeps of a core goes on without its dead registers as it does with them.
-use Rattle.std.proofs.Common.{◌≡◌, ℕ, zero, suc, ◌+◌, ◌*◌, ◌/◌, ◌%◌, ◌^◌, Bool, true, false, cond, not, ◌&&◌, ◌||◌, Option, Some, None, List, [], ◌∷◌, bit_and, refl, sym, ap, ◌∙◌, subst, ⊎_elim, arith, eqb-true, ne_eqb}
+use Rattle.std.proofs.Common.{◌≡◌, ℕ, zero, suc, ◌+◌, ◌*◌, ◌/◌, ◌%◌, ◌^◌, Bool, true, false, cond, not, ◌&&◌, ◌||◌, Option, Some, None, List, [], ◌∷◌, bit_and, refl, sym, ap, ◌∙◌, subst, ⊎_elim, arith, eqb-true, ne_eqb, ◌≢◌, slice_set, slice_index}
 use Rattle.std.specs.Prelude.{◌==◌}
-use Rattle.std.proofs.lemmas.Bool.{and_parts, or_cases, or_parts, true≢false}
+use Rattle.std.proofs.lemmas.Bool.{and_parts, not-true, or_cases, or_parts, true≢false}
 use Rattle.xt_map.specs.declared.access.Access.{Access}
 use Rattle.xt_map.specs.declared.contents.MemoryContents.{MemoryContents}
 use Rattle.xt_window.specs.Ring.{bit, place, visible}
@@ -21,9 +21,13 @@ use Rattle.xt_special.specs.Control.{special_of}
 use Rattle.xt_special.specs.Numbers as number
 use Rattle.xt_exec.specs.Chips.{processor}
 use Rattle.xt_exec.specs.State.{State}
-use Rattle.xt_exec.specs.Turn.{Planned, demand, planned_turn, turn, with_write}
-use Rattle.xt_timeless.specs.Time.{executes, fetches_time, timer_bits, uses_time}
-use Rattle.xt_outcomes.specs.Dead.{cleared, dead_at, fits, forgotten, is_live, is_written, reads_of, side_forgotten, spot_forgotten, stay_dead}
+use Rattle.xt_exec.specs.Turn.{Planned, demand, planned_turn, reply_where, turn, with_write}
+use Rattle.xt_special.specs.Access.{without_bits}
+use Rattle.std.proofs.lemmas.List.{get_or-set_other, set-set, set_comm}
+use Rattle.xt_timeless.specs.Time.{executes, fetches_compare, fetches_time, fetches_write, special_without_time, timer_bits, uses_time}
+use Rattle.xt_timeless.specs.TimeLaws.{DifferInCompare, with_compare}
+use Rattle.xt_timeless.proofs.Comparing.{compare_is_written, compare_waits}
+use Rattle.xt_outcomes.specs.Dead.{are_fit, cleared, compare_cleared, dead_at, fits, forgotten, has_compare, is_compare_fit, is_live, is_written, reads_of, registers_in, side_forgotten, spot_forgotten, stay_dead}
 use Rattle.xt_outcomes.specs.Nexts.{TurnsFit, misfits, next_bars, side_next, spot_next}
 use Rattle.xt_outcomes.specs.Orders.{world_after}
 use Rattle.xt_outcomes.specs.SpotRaces.{next_of}
@@ -72,6 +76,30 @@ fit_of true c e h = absurd (true≢false e)
 fit_of false true e h = refl
 fit_of false false e h = absurd (true≢false h)
 
+-- ---- SCOMPARE1 among special registers
+
+compare_stays : (b : Bool) (k : ℕ) (xs : List ℕ) → k ≢ 12 → slice_index (compare_cleared b xs) k ≡ slice_index xs k
+compare_stays true k xs h = get_or-set_other xs 12 k 0 0 h
+compare_stays false k xs h = refl
+
+-- without time too
+time_cleared : (b : Bool) (xs : List ℕ) → special_without_time (compare_cleared b xs) ≡ compare_cleared b (special_without_time xs)
+time_cleared false xs = refl
+time_cleared true xs =
+    let on : (k v : ℕ) (ys : List ℕ) → 12 ≢ k → slice_set (slice_set ys 12 0) k v ≡ slice_set (slice_set ys k v) 12 0 = λ k v ys h. set_comm ys 12 k 0 v h in
+    let a = slice_set xs 234 0 in
+    let b = slice_set a 240 0 in
+    let c = slice_set b 241 0 in
+    let d = slice_set c 242 0 in
+    let n = without_bits (slice_index xs 226) timer_bits in
+    let last : List ℕ → List ℕ = λ ys. slice_set ys 226 (without_bits (slice_index (slice_set xs 12 0) 226) timer_bits) in
+    ap (λ (ys : List ℕ). last (slice_set (slice_set (slice_set ys 240 0) 241 0) 242 0)) (on 234 0 xs (λ e. omega arith))
+    ∙ ap (λ (ys : List ℕ). last (slice_set (slice_set ys 241 0) 242 0)) (on 240 0 a (λ e. omega arith))
+    ∙ ap (λ (ys : List ℕ). last (slice_set ys 242 0)) (on 241 0 b (λ e. omega arith))
+    ∙ ap last (on 242 0 c (λ e. omega arith))
+    ∙ ap (λ (m : ℕ). slice_set (slice_set d 12 0) 226 (without_bits m timer_bits)) (get_or-set_other xs 12 226 0 0 (λ e. omega arith))
+    ∙ on 226 n d (λ e. omega arith)
+
 -- ---- one turn
 
 module _ (code : ℕ → ℕ) (ms : List ℕ) where
@@ -90,20 +118,164 @@ module _ (code : ℕ → ℕ) (ms : List ℕ) where
     state = λ reply. ap (λ (u : State). forgotten ms (turn code u reply).1) e;
   }
 
+  then_same : (t u s : State) → MakeOneTurn t u → MakeOneTurn u s → MakeOneTurn t s
+  then_same t u s h k = record {
+    kind = h.kind ∙ k.kind;
+    asks = h.asks ∙ k.asks;
+    rec = λ reply. h.rec reply ∙ k.rec reply;
+    state = λ reply. h.state reply ∙ k.state reply;
+  }
+
+  -- ---- SCOMPARE1
+
+  -- a state without SCOMPARE1, if it is dead
+  abbrev pub rest : State → State
+  rest u = record u { control = record u.control { special = compare_cleared (has_compare (dead_at ms u.control.pc)) u.control.special } }
+
+  -- what the checks see of a turn
+  record IsSeenAlike (q p : Planned) : Type 0 where
+    kind : q.kind ≡ p.kind
+    write : q.write ≡ p.write
+    awaited : q.awaited ≡ p.awaited
+    base : q.after.base ≡ p.after.base
+    pc : q.after.control.pc ≡ p.after.control.pc
+
+  seen_same : (q p : Planned) → q ≡ p → IsSeenAlike q p
+  seen_same q p e = record {
+    kind = ap (λ (x : Planned). x.kind) e;
+    write = ap (λ (x : Planned). x.write) e;
+    awaited = ap (λ (x : Planned). x.awaited) e;
+    base = ap (λ (x : Planned). x.after.base) e;
+    pc = ap (λ (x : Planned). x.after.control.pc) e;
+  }
+
+  module _ (u : State) where
+    abbrev v : State
+    v = with_compare 0 u
+
+    other_special : (k : ℕ) → k ≢ 12 → special_of v.control k ≡ special_of u.control k
+    other_special k h = get_or-set_other u.control.special 12 k 0 0 h
+
+    same_record : (D : DifferInCompare (planned_turn code u) (planned_turn code v)) (reply : ℕ) → (turn code v reply).0 ≡ (turn code u reply).0
+    unfolding turn demand
+    same_record D reply =
+        let make : StepKind → Option RegWrite → Option Access → ℕ → ℕ → ℕ → StepRecord = λ kind write access answer ccount interrupt. record {
+          pc = u.control.pc;
+          kind = kind;
+          write = write;
+          access = access;
+          reply = answer;
+          ccount = ccount;
+          owb = u.control.ps.owb;
+          interrupt = interrupt;
+        } in
+        λ i. make (sym D.kind i) (write_with_reply (sym D.write i) (sym D.awaited i) reply) (sym D.access i) (reply_where (sym D.access i) reply)
+        (other_special 234 (λ e. omega arith) i) (other_special 226 (λ e. omega arith) i)
+
+    cleared_twice : (b : Bool) (k : ℕ) (xs : List ℕ) → b ≡ true → compare_cleared b (slice_set xs 12 k) ≡ compare_cleared b xs
+    cleared_twice true k xs h = set-set xs 12 k 0
+    cleared_twice false k xs h = absurd (true≢false (sym h))
+
+    -- two states after a turn that differ in SCOMPARE1, which is dead then
+    after_alike : (w : Option RegWrite) (p : State) (k : ℕ) → has_compare (dead_at ms p.control.pc) ≡ true → forgotten ms (with_write w (with_compare k p)) ≡ forgotten ms (with_write w p)
+    after_alike None p k h =
+        ap
+        (λ (xs : List ℕ). let x : State = record p {
+          regs = cleared (registers_in (dead_at ms p.control.pc)) p.base p.regs 16;
+          control = record p.control { special = xs };
+        } in
+        x)
+        (cleared_twice (has_compare (dead_at ms p.control.pc)) k p.control.special h)
+    after_alike (Some w) p k h =
+        ap
+        (λ (xs : List ℕ). let x : State = record p {
+          regs = cleared (registers_in (dead_at ms p.control.pc)) p.base (put (Some w) p.base p.regs) 16;
+          control = record p.control { special = xs };
+        } in
+        x)
+        (cleared_twice (has_compare (dead_at ms p.control.pc)) k p.control.special h)
+
+    same_after : (D : DifferInCompare (planned_turn code u) (planned_turn code v)) (reply : ℕ) → has_compare (dead_at ms (planned_turn code u).after.control.pc) ≡ true
+        → forgotten ms (turn code v reply).1 ≡ forgotten ms (turn code u reply).1
+    unfolding turn
+    same_after D reply h =
+        let p = planned_turn code u in
+        (λ i. forgotten ms (with_write (write_with_reply (sym D.write i) (sym D.awaited i) reply) (D.after i)))
+        ∙ after_alike (write_with_reply p.write p.awaited reply) p.after D.compare h
+
+    asked : (x : State) → demand code x ≡ (planned_turn code x).access
+    unfolding demand
+    asked x = refl
+
+    written_after : (reply : ℕ) → planned_turn code v ≡ planned_turn code u → forgotten ms (turn code v reply).1 ≡ forgotten ms (turn code u reply).1
+    unfolding turn
+    written_after reply e = ap (λ (x : Planned). forgotten ms (with_write (write_with_reply x.write x.awaited reply) x.after)) e
+
+    -- a turn that does not read it makes the same, where it is written or dead then
+    compare_turn : fetches_compare (fetch_at code u.control.pc) ≡ false
+        → ((executes (planned_turn code v).kind && fetches_write (fetch_at code u.control.pc)) || has_compare (dead_at ms (planned_turn code v).after.control.pc)) ≡ true
+        → MakeOneTurn v u × IsSeenAlike (planned_turn code v) (planned_turn code u)
+    compare_turn free h =
+        let D = compare_waits code u 0 free in
+        let p = planned_turn code u in
+        let q = planned_turn code v in
+        let written = executes q.kind && fetches_write (fetch_at code u.control.pc) in
+        let pc : q.after.control.pc ≡ p.after.control.pc = ap (λ (x : State). x.control.pc) D.after in (
+          record {
+            kind = sym D.kind;
+            asks = asked v ∙ sym D.access ∙ sym (asked u);
+            rec = same_record D;
+            state = λ reply. ⊎_elim
+                (λ (w : written ≡ true).
+                let e = compare_is_written code u 0 (ap (λ (k : StepKind). executes k && fetches_write (fetch_at code u.control.pc)) D.kind ∙ w) in
+                written_after reply e)
+                (λ (x : has_compare (dead_at ms q.after.control.pc) ≡ true). same_after D reply (ap (λ (k : ℕ). has_compare (dead_at ms k)) (sym pc) ∙ x))
+                (or_cases written (has_compare (dead_at ms q.after.control.pc)) h);
+          },
+          record {
+            kind = sym D.kind;
+            write = sym D.write;
+            awaited = sym D.awaited;
+            base = ap (λ (x : State). x.base) D.after;
+            pc = pc;
+          },
+        )
+
+    -- by whether it is dead
+    compare_same : (b : Bool) → has_compare (dead_at ms u.control.pc) ≡ b
+        → (let q = planned_turn code (rest u) in is_compare_fit (dead_at ms u.control.pc) (fetches_compare (fetch_at code u.control.pc)) (executes q.kind && fetches_write (fetch_at code u.control.pc)) (dead_at ms q.after.control.pc) ≡ true)
+        → MakeOneTurn (rest u) u × IsSeenAlike (planned_turn code (rest u)) (planned_turn code u)
+    compare_same true e h =
+        let at = fetch_at code u.control.pc in
+        let is : rest u ≡ v = ap (λ (b : Bool). let x : State = record u { control = record u.control { special = compare_cleared b u.control.special } } in x) e in
+        let fit : State → Bool = λ x. let q = planned_turn code x in not (fetches_compare at) && ((executes q.kind && fetches_write at) || has_compare (dead_at ms q.after.control.pc)) in
+        let k : fit v ≡ true =
+        ap fit (sym is) ∙ sym (ap (λ (b : Bool). not b || fit (rest u)) e) ∙ h in
+        let parts = and_parts (not (fetches_compare at)) ((executes (planned_turn code v).kind && fetches_write at) || has_compare (dead_at ms (planned_turn code v).after.control.pc)) k in
+        subst (λ (x : State). MakeOneTurn x u × IsSeenAlike (planned_turn code x) (planned_turn code u)) (sym is) (compare_turn (not-true (fetches_compare at) parts.0) parts.1)
+    compare_same false e h =
+        let is : rest u ≡ u = ap (λ (b : Bool). let x : State = record u { control = record u.control { special = compare_cleared b u.control.special } } in x) e in
+        (one_state (rest u) u is, seen_same (planned_turn code (rest u)) (planned_turn code u) (ap (planned_turn code) is))
+
+  -- ---- visible registers
+
   module _ (s : State) where
     abbrev d : ℕ
-    d = dead_at ms s.control.pc
+    d = registers_in (dead_at ms s.control.pc)
 
     abbrev R : List ℕ
     R = cleared d s.base s.regs 16
+
+    abbrev cut : State
+    cut = record s { regs = R }
 
     abbrev p : Planned
     p = planned_turn code s
 
     abbrev later : ℕ
-    later = dead_at ms p.after.control.pc
+    later = registers_in (dead_at ms p.after.control.pc)
 
-    none_dead : d ≡ 0 → forgotten ms s ≡ s
+    none_dead : d ≡ 0 → cut ≡ s
     none_dead e =
         ap (λ (mask : ℕ). let u : State = record s { regs = cleared mask s.base s.regs 16 } in u) e
         ∙ ap (λ (xs : List ℕ). let u : State = record s { regs = xs } in u) (none_cleared s.base s.regs)
@@ -133,12 +305,12 @@ module _ (code : ℕ → ℕ) (ms : List ℕ) where
         → forgotten ms (with_write write (record p.after { regs = R })) ≡ forgotten ms (with_write write p.after)
     same_state write base stay =
         ap (forgotten ms) (written_state write p.after R)
-        ∙ ap (λ (xs : List ℕ). let u : State = record p.after { regs = xs } in u) (same_regs write base stay)
+        ∙ ap (λ (xs : List ℕ). rest (let u : State = record p.after { regs = xs } in u)) (same_regs write base stay)
         ∙ sym (ap (forgotten ms) (written_state write p.after p.after.regs))
 
     module _ (agree : AgreeOn (visible R s.base) (visible s.regs s.base) (reads_of (fetch_at code s.control.pc)))
         (base : p.after.base ≡ s.base) (stay : stay_dead (write_with_reply p.write p.awaited 0) d later 16 ≡ true) where
-      e : planned_turn code (forgotten ms s) ≡ with_regs R p
+      e : planned_turn code cut ≡ with_regs R p
       e = planned_with R code s agree
 
       dead_stay : (reply : ℕ) → stay_dead (turn code s reply).0.write d later 16 ≡ true
@@ -147,10 +319,10 @@ module _ (code : ℕ → ℕ) (ms : List ℕ) where
           ∙ same_stay (write_with_reply p.write p.awaited reply) (write_with_reply p.write p.awaited 0) d later 16 (same_written p.write p.awaited reply 0)
           ∙ stay
 
-      one_turn : MakeOneTurn (forgotten ms s) s
+      one_turn : MakeOneTurn cut s
       one_turn = record {
         kind = ap (λ (q : Planned). q.kind) e;
-        asks = asks_is (forgotten ms s) ∙ ap (λ (q : Planned). q.access) e ∙ sym (asks_is s);
+        asks = asks_is cut ∙ ap (λ (q : Planned). q.access) e ∙ sym (asks_is s);
         rec = λ reply. ap (λ (x : StepRecord × State). x.0) (turn_with R code s reply agree);
         state = λ reply.
             ap (λ (x : StepRecord × State). forgotten ms x.1) (turn_with R code s reply agree)
@@ -158,16 +330,16 @@ module _ (code : ℕ → ℕ) (ms : List ℕ) where
             ∙ sym (ap (forgotten ms) (state_is reply));
       }
 
-    -- a turn that fits is the same without the dead registers
-    pub fit_turn : fits code ms (forgotten ms s) ≡ true → MakeOneTurn (forgotten ms s) s
-    fit_turn h =
-        let q = planned_turn code (forgotten ms s) in
+    registers_fit : (let q = planned_turn code cut in are_fit d (reads_of (fetch_at code s.control.pc)) (q.after.base == s.base) (write_with_reply q.write q.awaited 0) (registers_in (dead_at ms q.after.control.pc)) ≡ true)
+        → MakeOneTurn cut s
+    registers_fit h =
+        let q = planned_turn code cut in
         let o = reads_of (fetch_at code s.control.pc) in
         let stays = q.after.base == s.base in
         let write = write_with_reply q.write q.awaited 0 in
-        let stay = stay_dead write d (dead_at ms q.after.control.pc) 16 in
+        let stay = stay_dead write d (registers_in (dead_at ms q.after.control.pc)) 16 in
         ⊎_elim
-        (λ (none : (d == 0) ≡ true). one_state (forgotten ms s) s (none_dead (eqb-true d 0 none)))
+        (λ (none : (d == 0) ≡ true). one_state cut s (none_dead (eqb-true d 0 none)))
         (λ (some : (is_live d o.0 && (is_live d o.1 && (stays && stay))) ≡ true).
         let x = and_parts (is_live d o.0) (is_live d o.1 && (stays && stay)) some in
         let y = and_parts (is_live d o.1) (stays && stay) x.1 in
@@ -176,18 +348,39 @@ module _ (code : ℕ → ℕ) (ms : List ℕ) where
         let f = planned_with R code s agree in
         one_turn agree
         (sym (ap (λ (u : Planned). u.after.base) f) ∙ eqb-true q.after.base s.base z.0)
-        (ap (λ (u : Planned). stay_dead (write_with_reply u.write u.awaited 0) d (dead_at ms u.after.control.pc) 16) (sym f) ∙ z.1))
+        (ap (λ (u : Planned). stay_dead (write_with_reply u.write u.awaited 0) d (registers_in (dead_at ms u.after.control.pc)) 16) (sym f) ∙ z.1))
         (or_cases (d == 0) (is_live d o.0 && (is_live d o.1 && (stays && stay))) h)
+
+    -- a turn that fits is the same without the dead registers
+    pub fit_turn : fits code ms (forgotten ms s) ≡ true → MakeOneTurn (forgotten ms s) s
+    fit_turn h =
+        let t = forgotten ms s in
+        let q = planned_turn code t in
+        let r = planned_turn code cut in
+        let at = fetch_at code s.control.pc in
+        let o = reads_of at in
+        let registers : Planned → Bool = λ x. are_fit d o (x.after.base == s.base) (write_with_reply x.write x.awaited 0) (registers_in (dead_at ms x.after.control.pc)) in
+        let parts = and_parts (registers q) (is_compare_fit (dead_at ms s.control.pc) (fetches_compare at) (executes q.kind && fetches_write at) (dead_at ms q.after.control.pc)) h in
+        let same = compare_same cut (has_compare (dead_at ms s.control.pc)) refl parts.1 in
+        let k = same.1 in
+        let back : registers q ≡ registers r = λ i. are_fit d o (k.base i == s.base) (write_with_reply (k.write i) (k.awaited i) 0) (registers_in (dead_at ms (k.pc i))) in
+        then_same t cut s same.0 (registers_fit (sym back ∙ parts.0))
 
     fit_uses : fits code ms (forgotten ms s) ≡ true → uses_time code (forgotten ms s) ≡ uses_time code s
     fit_uses h =
-        ap (λ (k : StepKind). not (bit_and (special_of s.control number.intenable) timer_bits == 0) || (executes k && fetches_time (fetch_at code s.control.pc))) (fit_turn h).kind
+        ap (λ (n : ℕ). not (bit_and n timer_bits == 0) || (executes (planned_turn code (forgotten ms s)).kind && fetches_time (fetch_at code s.control.pc)))
+        (compare_stays (has_compare (dead_at ms s.control.pc)) 228 s.control.special (λ e. omega arith))
+        ∙ ap (λ (k : StepKind). not (bit_and (special_of s.control number.intenable) timer_bits == 0) || (executes k && fetches_time (fetch_at code s.control.pc))) (fit_turn h).kind
 
   -- ---- what is kept of a core
 
   kept_forgets : (timed : Bool) (u : State) → forgotten ms (state_kept timed u) ≡ state_kept timed (forgotten ms u)
   kept_forgets true u = refl
-  kept_forgets false u = refl
+  kept_forgets false u =
+      let mask = dead_at ms u.control.pc in
+      ap
+      (λ (xs : List ℕ). let x : State = record u { regs = cleared (registers_in mask) u.base u.regs 16; control = record u.control { special = xs } } in x)
+      (sym (time_cleared (has_compare mask) u.control.special))
 
   module _ (timed : Bool) where
     abbrev F : Side State → Side State

@@ -7,7 +7,8 @@ use Rattle.xt_map.specs.Fetching.{fetch_at}
 use Rattle.xt_rows.specs.Settling.{write_with_reply}
 use Rattle.xt_exec.specs.State.{State}
 use Rattle.xt_exec.specs.Turn.{planned_turn}
-use Rattle.xt_outcomes.specs.Dead.{are_fit, cleared, dead_at, fits, forgotten, reads_of, side_forgotten}
+use Rattle.xt_outcomes.specs.Dead.{are_fit, cleared, compare_cleared, dead_at, fits, forgotten, has_compare, is_compare_fit, reads_of, registers_in, side_forgotten}
+use Rattle.xt_timeless.specs.Time.{executes, fetches_compare, fetches_write}
 use Rattle.xt_outcomes.specs.Nexts.{misfits, next_bars, side_next, spot_next}
 use Rattle.xt_outcomes.specs.Spots.{Side, Spot, memory_given, side_bars, side_given, spot_past}
 use Rattle.xt_outcomes.proofs.Clearing.{none_cleared}
@@ -21,8 +22,11 @@ none_at pc = none_there (pc % 131072)
 
 none_forgotten : (s : State) → forgotten [] s ≡ s
 none_forgotten s =
-    let with : List ℕ → State = λ xs. record s { regs = xs } in
-    ap (λ (mask : ℕ). with (cleared mask s.base s.regs 16)) (none_at s.control.pc) ∙ ap with (none_cleared s.base s.regs)
+    let with : ℕ → List ℕ → State = λ mask xs. record s {
+      regs = xs;
+      control = record s.control { special = compare_cleared (has_compare mask) s.control.special };
+    } in
+    ap (λ (mask : ℕ). with mask (cleared (registers_in mask) s.base s.regs 16)) (none_at s.control.pc) ∙ ap (with 0) (none_cleared s.base s.regs)
 
 side_stays : (k : Side State) → side_forgotten [] k ≡ k
 side_stays k = ap (λ (s : State). let l : Side State = record k { state = s } in l) (none_forgotten k.state)
@@ -43,7 +47,12 @@ module _ (code : ℕ → ℕ) where
   pub all_fit : (s : State) → fits code [] s ≡ true
   all_fit s =
       let p = planned_turn code s in
-      ap (λ (mask : ℕ). are_fit mask (reads_of (fetch_at code s.control.pc)) (p.after.base == s.base) (write_with_reply p.write p.awaited 0) (dead_at [] p.after.control.pc)) (none_at s.control.pc)
+      let at = fetch_at code s.control.pc in
+      let later = dead_at [] p.after.control.pc in
+      ap
+      (λ (mask : ℕ). are_fit (registers_in mask) (reads_of at) (p.after.base == s.base) (write_with_reply p.write p.awaited 0) (registers_in later)
+      && is_compare_fit mask (fetches_compare at) (executes p.kind && fetches_write at) later)
+      (none_at s.control.pc)
 
   none_misfits : (s : Side State) → misfits code [] s ≡ false
   none_misfits s = ap (λ (b : Bool). not (s.left == 0) && not b) (all_fit s.state) ∙ never (not (s.left == 0))

@@ -14,7 +14,8 @@ use Rattle.xt_exec.proofs.Shapes.{turn_shaped}
 use Rattle.xt_map.specs.Code.{AreBytes}
 use Rattle.xt_rows.specs.RowLaws.{IsWord}
 use Rattle.xt_window.specs.Ring.{bit, place}
-use Rattle.xt_outcomes.specs.Dead.{cleared, dead_at, forgotten, side_forgotten}
+use Rattle.xt_exec.proofs.Specials.{IsShapedSpecial, set_shaped}
+use Rattle.xt_outcomes.specs.Dead.{cleared, compare_cleared, dead_at, forgotten, has_compare, registers_in, side_forgotten}
 use Rattle.xt_outcomes.specs.Nexts.{side_next}
 use Rattle.xt_outcomes.proofs.Clearing.{cleared_long}
 use Rattle.xt_outcomes.specs.Spots.{Side, memory_given, more_kept, side_given, state_kept}
@@ -87,11 +88,25 @@ cleared_words : (mask base : ℕ) (xs : List ℕ) (n : ℕ) → ((i : ℕ) → s
 cleared_words mask base xs zero h j = h j
 cleared_words mask base xs (suc n) h j = words_when (bit mask n) (cleared mask base xs n) (place base n) j (cleared_words mask base xs n h)
 
+compare_shaped : (b : Bool) (xs : List ℕ) → IsShapedSpecial xs → IsShapedSpecial (compare_cleared b xs)
+compare_shaped true xs h = set_shaped xs 12 0 (record { as_sar = λ e. absurd (omega (arith, e)); as_vecbase = λ e. absurd (omega (arith, e)) }) (omega arith) h
+compare_shaped false xs h = h
+
 pub forgotten_shaped : (ms : List ℕ) (s : State) → IsShaped s → IsShaped (forgotten ms s)
-forgotten_shaped ms s h = record {
-  count = cleared_long (dead_at ms s.control.pc) s.base s.regs 16 ∙ h.count;
-  words = cleared_words (dead_at ms s.control.pc) s.base s.regs 16 h.words;
-  base = h.base;
-  start = h.start;
-  control = h.control;
-}
+forgotten_shaped ms s h =
+    let mask = dead_at ms s.control.pc in
+    let special = compare_shaped (has_compare mask) s.control.special (record { count = h.control.count; words = h.control.words; shape = h.control.shape }) in
+    record {
+      count = cleared_long (registers_in mask) s.base s.regs 16 ∙ h.count;
+      words = cleared_words (registers_in mask) s.base s.regs 16 h.words;
+      base = h.base;
+      start = h.start;
+      control = record {
+        pc = h.control.pc;
+        count = special.count;
+        words = special.words;
+        shape = special.shape;
+        ps = h.control.ps;
+        threadptr = h.control.threadptr;
+      };
+    }

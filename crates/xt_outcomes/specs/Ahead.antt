@@ -13,3 +13,7 @@ pub record IsAhead (code : ℕ → ℕ) (s : State) (m : MemoryContents) (a : Ah
   pub turn : (a.record, file_state a.regs) ≡ turn code s (answer (demand code s) m)
   pub served : IsServed a.record.access
   pub shaped : IsShaped (file_state a.regs)
+
+-- its registers are those of the core before its next turn
+abbrev pub IsReady : State → Ahead → Type 0
+IsReady s a = (file_state a.regs ≡ s) × IsShaped (file_state a.regs)

@@ -1,11 +1,13 @@
 -- Carries a proof; nothing that a reader must believe.
 -- Registers that nobody will read: what a search takes for granted of them.
 --
--- A list has masks of sixteen visible registers, of each program counter one, and program counters
--- far apart may share one. In what a search keeps of a core the registers of the mask are 0; it is
--- right if each turn that the search makes fits.
+-- A list has masks, of each program counter one, and program counters far apart may share one: bits 0
+-- to 15 are of the visible registers, and the next one is of SCOMPARE1. In what a search keeps of a
+-- core the registers of the mask are 0; it is right if each turn that the search makes fits.
 use Rattle.std.specs.Prelude.{ℕ, zero, suc, ◌%◌, Bool, true, false, ◌==◌, ◌&&◌, ◌||◌, not}
 use Rattle.std.specs.Prelude.{if◌then◌else◌, Option, Some, None, List, slice_index, slice_set}
+use Rattle.std.specs.Prelude.{nat_le}
+use Rattle.xt_special.specs.Numbers as number
 use Rattle.xt_window.specs.Ring.{bit, place}
 use Rattle.xt_trace.specs.declared.record.RegWrite.{RegWrite}
 use Rattle.xt_map.specs.Fetching.{Fetched, Fetches, Fails, SpellsNothing, fetch_at}
@@ -13,6 +15,7 @@ use Rattle.xt_rows.specs.Operands.{reads}
 use Rattle.xt_rows.specs.Settling.{write_with_reply}
 use Rattle.xt_exec.specs.State.{State}
 use Rattle.xt_exec.specs.Turn.{planned_turn}
+use Rattle.xt_timeless.specs.Time.{executes, fetches_compare, fetches_write}
 use Rattle.xt_outcomes.specs.States.{Side, Spot}
 
 -- ---- what is forgotten
@@ -20,6 +23,17 @@ use Rattle.xt_outcomes.specs.States.{Side, Spot}
 -- the registers that are dead at the program counter
 abbrev pub dead_at : List ℕ → ℕ → ℕ
 dead_at ms pc = slice_index ms (pc % 131072)
+
+abbrev pub registers_in : ℕ → ℕ
+registers_in mask = mask % 65536
+
+abbrev pub has_compare : ℕ → Bool
+has_compare mask = nat_le 65536 mask
+
+-- 0 in SCOMPARE1
+abbrev pub compare_cleared : Bool → List ℕ → List ℕ
+compare_cleared true special = slice_set special number.scompare1 0
+compare_cleared false special = special
 
 -- 0 in each of the first n registers of the window that is in the mask
 abbrev pub cleared : ℕ → ℕ → List ℕ → ℕ → List ℕ
@@ -29,7 +43,12 @@ cleared mask base regs (suc n) =
     if bit mask n then slice_set rest (place base n) 0 else rest
 
 abbrev pub forgotten : List ℕ → State → State
-forgotten ms s = record s { regs = cleared (dead_at ms s.control.pc) s.base s.regs 16 }
+forgotten ms s =
+    let mask = dead_at ms s.control.pc in
+    record s {
+      regs = cleared (registers_in mask) s.base s.regs 16;
+      control = record s.control { special = compare_cleared (has_compare mask) s.control.special };
+    }
 
 abbrev pub side_forgotten : List ℕ → Side State → Side State
 side_forgotten ms k = record k { state = forgotten ms k.state }
@@ -69,9 +88,18 @@ are_fit before reads stays write after =
     || (is_live before reads.0
     && (is_live before reads.1 && (stays && stay_dead write before after 16)))
 
+-- by the masks before and after the turn, and whether it reads SCOMPARE1 and writes it
+abbrev pub is_compare_fit : ℕ → (reads writes : Bool) → ℕ → Bool
+is_compare_fit before reads writes after =
+    not (has_compare before) || (not reads && (writes || has_compare after))
+
 -- the next turn fits; its reply is no matter
 abbrev pub fits : (ℕ → ℕ) → List ℕ → State → Bool
 fits code ms s =
     let p = planned_turn code s in
-    are_fit (dead_at ms s.control.pc) (reads_of (fetch_at code s.control.pc)) (p.after.base == s.base)
-    (write_with_reply p.write p.awaited 0) (dead_at ms p.after.control.pc)
+    let at = fetch_at code s.control.pc in
+    let before = dead_at ms s.control.pc in
+    let after = dead_at ms p.after.control.pc in
+    are_fit (registers_in before) (reads_of at) (p.after.base == s.base)
+    (write_with_reply p.write p.awaited 0) (registers_in after)
+    && is_compare_fit before (fetches_compare at) (executes p.kind && fetches_write at) after

@@ -6,6 +6,7 @@ pub mod NextTurns
 pub mod States
 pub mod Spots
 pub mod Dead
+pub mod Passages
 pub mod Nexts
 pub mod Ahead
 pub mod SpotRaces

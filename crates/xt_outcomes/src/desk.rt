@@ -7,6 +7,9 @@ use crate::world::Shared;
 use std::alloc::{AllocError, Global};
 use xt_map::Access;
 
+// After so many turns one after another of which none told of a new path, the next ones are not noted.
+const QUIET: u32 = 100000;
+
 /// What worlds share, and what was seen of the turns that were made.
 pub struct Desk {
     pub(crate) shared: Shared,
@@ -14,6 +17,7 @@ pub struct Desk {
     paths: Paths,
     has_new_place: bool,
     has_new_path: bool,
+    quiet: u32,
 }
 
 // A `drop` of its own is one call at each place where a value is dropped.
@@ -25,6 +29,7 @@ impl Drop for Desk {
             paths: _,
             has_new_place: _,
             has_new_path: _,
+            quiet: _,
         } = self;
     }
 }
@@ -38,6 +43,7 @@ impl Desk {
             paths: Paths::new(alloc)?,
             has_new_place: false,
             has_new_path: false,
+            quiet: 0,
         })
     }
 
@@ -47,21 +53,30 @@ impl Desk {
         self.shared = Shared::new(alloc)?;
         self.has_new_place = false;
         self.has_new_path = false;
+        self.quiet = 0;
         Ok(())
     }
 
-    /// Notes a turn of a core. The only error is running out of memory.
+    /// Notes a turn of a core, which fits or not. Its path is not noted if it fits and many turns before it told
+    /// of nothing new. The only error is running out of memory.
     pub(crate) fn note(
         &mut self,
         core: u8,
         access: Option<Access>,
         passage: &Passage,
+        fits: bool,
     ) -> Result<(), AllocError> {
         if self.seen.note(core, access) {
             self.has_new_place = true;
         }
+        if fits && self.quiet == QUIET {
+            return Ok(());
+        }
         if self.paths.note(passage)? {
             self.has_new_path = true;
+            self.quiet = 0;
+        } else if self.quiet < QUIET {
+            self.quiet += 1;
         }
         Ok(())
     }

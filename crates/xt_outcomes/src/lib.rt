@@ -24,7 +24,7 @@ mod turns;
 mod world;
 
 pub use answers::{Answers, Ending, answers_of};
-pub use dead::Dead;
+pub use dead::{Dead, Uses, has_compare, registers_in, uses_at};
 pub use desk::Desk;
 pub use found::{Search, order_of};
 pub use laws::{runs_end_in_their_outcomes, spots_follow_orders, turns_beyond_play_no_part};
@@ -39,5 +39,5 @@ pub use shelf::{Part, Shelf};
 pub use sides::Side;
 pub use stuck::stuck_of;
 pub use timed::{Timed, WorldRun};
-pub use turns::Ahead;
+pub use turns::{Ahead, has_timer};
 pub use world::{Shared, World};

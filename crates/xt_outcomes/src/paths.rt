@@ -4,7 +4,7 @@
 use crate::dead::{Dead, Registers};
 use std::alloc::{AllocError, Global};
 use xt_trace::RegWrite;
-use xt_window::ring::{with_bit, without_bit};
+use xt_window::ring::with_bit;
 
 // Of how many program counters something is noted.
 const SLOTS: usize = 131072;
@@ -13,10 +13,15 @@ const SLOTS: usize = 131072;
 const MOST_PASSES: u32 = 1000;
 
 // All registers.
-const ALL: u16 = 0xFFFF;
+const ALL: u32 = 0x1_FFFF;
+
+// All visible registers, and SCOMPARE1.
+const VISIBLE: u32 = 0xFFFF;
+
+const COMPARE: u32 = 0x1_0000;
 
 /// A turn: its program counter and the next one, the registers that it reads and the one that it writes,
-/// and whether it stays in its window.
+/// whether it stays in its window, and whether it reads and writes SCOMPARE1.
 #[derive(Clone, Copy)]
 pub(crate) struct Passage {
     pub from: u32,
@@ -24,14 +29,16 @@ pub(crate) struct Passage {
     pub reads: Registers,
     pub write: Option<RegWrite>,
     pub stays: bool,
+    pub reads_compare: bool,
+    pub writes_compare: bool,
 }
 
 // What the turns at a program counter read, which registers some of them did not write, and one more than
 // the number of the last edge from there, or 0.
 #[derive(Clone, Copy)]
 struct Point {
-    reads: u16,
-    spared: u16,
+    reads: u32,
+    spared: u32,
     last: u32,
     is_seen: bool,
 }
@@ -66,29 +73,32 @@ fn slot_of(pc: u32) -> u32 {
     pc % 131072
 }
 
-// A mask with one register more, if it is one.
-fn with_register(mask: u16, register: Option<u8>) -> u16 {
+// The mask of a register, if it is one.
+fn mask_of(register: Option<u8>) -> u32 {
     match register {
-        Some(register) => with_bit(mask, register),
-        None => mask,
+        Some(register) => u32::from(with_bit(0, register)),
+        None => 0,
     }
 }
 
-// What a turn reads. If it moves the window, each register may be read.
-fn read_by(passage: &Passage) -> u16 {
+// What a turn reads. If it moves the window, each visible register may be read.
+fn read_by(passage: &Passage) -> u32 {
+    let compare = if passage.reads_compare { COMPARE } else { 0 };
     if passage.stays {
-        with_register(with_register(0, passage.reads.0), passage.reads.1)
+        compare | mask_of(passage.reads.0) | mask_of(passage.reads.1)
     } else {
-        ALL
+        compare | VISIBLE
     }
 }
 
 // What a turn does not write.
-fn spared_by(passage: &Passage) -> u16 {
-    match passage.write {
-        Some(write) => without_bit(ALL, write.reg),
-        None => ALL,
-    }
+fn spared_by(passage: &Passage) -> u32 {
+    let written = match passage.write {
+        Some(write) => mask_of(Some(write.reg)),
+        None => 0,
+    };
+    let compare = if passage.writes_compare { COMPARE } else { 0 };
+    ALL & !(written | compare)
 }
 
 impl Paths {
@@ -152,7 +162,7 @@ impl Paths {
     }
 
     // What is read from a place on, if so much is read from another one on to which an edge leads.
-    fn live_before(&self, from: u32, after: u16) -> u16 {
+    fn live_before(&self, from: u32, after: u32) -> u32 {
         match self.points.get(from as usize) {
             Some(point) => point.reads | (after & point.spared),
             None => ALL,
@@ -160,7 +170,7 @@ impl Paths {
     }
 
     // Carries what is read back along each edge, the last ones first, and answers whether anything changed.
-    fn carry_back(&self, live: &mut [u16]) -> bool {
+    fn carry_back(&self, live: &mut [u32]) -> bool {
         let mut changed = false;
         let last = self.edges.len().saturating_sub(1);
         for past in 0..self.edges.len() {
@@ -184,7 +194,7 @@ impl Paths {
     }
 
     // What is read from each place on, as far as was seen. The only error is running out of memory.
-    fn live(&self, alloc: Global) -> Result<Vec<u16>, AllocError> {
+    fn live(&self, alloc: Global) -> Result<Vec<u32>, AllocError> {
         let mut live = Vec::new(alloc);
         for point in &self.points {
             live.push(if point.is_seen { point.reads } else { ALL })?;
@@ -201,7 +211,7 @@ impl Paths {
     pub fn dead(&self, alloc: Global) -> Result<Dead, AllocError> {
         let mut masks = Vec::new(alloc);
         for live in &self.live(alloc)? {
-            masks.push(!*live)?;
+            masks.push(ALL & !*live)?;
         }
         Ok(Dead { masks })
     }

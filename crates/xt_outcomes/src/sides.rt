@@ -1,6 +1,6 @@
 //! A core between two turns.
 ghost use Rattle.std.specs.Prelude.{◌≡◌, ◌<◌, true, false};
-ghost use Rattle.xt_outcomes.specs.SideMarks.{mixed, ring_of, side_mark};
+ghost use Rattle.xt_outcomes.specs.SideMarks.{mixed, pairs_of, side_mark};
 
 use crate::turns::leave_time;
 use std::marker::Model;
@@ -31,17 +31,20 @@ impl Model for Side {
     ghost invariant = { λ s. IsShaped (file_state s.regs) };
 }
 
-// A number, and all registers one after another.
+// A number, and all registers two after two.
 fn mixed(digest: u64, windows: &WindowFile) -> u64
-    ensures { result ≡ mixed (ring_of windows.now.regs) digest 64 }
+    ensures { result ≡ mixed (pairs_of windows.now.regs) digest 32 }
 {
     let mut ring = *windows;
     let mut digest = digest;
-    for n in 0..64u8 {
-        ring.set_base(n / 4);
+    for n in 0..32u8 {
+        ring.set_base(n / 2);
+        let low = ring.read(n % 2 * 2) as u64;
+        let high = ring.read(n % 2 * 2 + 1) as u64;
         digest = digest
             .wrapping_mul(0x9E37_79B9_7F4A_7C15)
-            .wrapping_add(ring.read(n % 4) as u64);
+            .wrapping_add(high.wrapping_mul(0x1_0000_0000))
+            .wrapping_add(low);
     }
     digest
 }

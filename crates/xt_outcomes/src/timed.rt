@@ -4,8 +4,9 @@ ghost use Rattle.std.specs.Prelude.{◌≡◌, ◌==◌, ◌&&◌, ◌<◌};
 ghost use Rattle.xt_map.specs.declared.contents.MemoryContents.{MemoryContents};
 ghost use Rattle.xt_map.specs.Memory.{HasSizes, constant_byte};
 ghost use Rattle.xt_map.specs.Code.{AreBytes};
+ghost use Rattle.xt_timeless.specs.Time.{executes};
 
-use crate::dead::{Dead, are_fit, reads_at};
+use crate::dead::{Dead, Uses, are_both, are_fit, is_compare_fit, registers_in, uses_at};
 use crate::desk::Desk;
 use crate::paths::Passage;
 use crate::places::Places;
@@ -19,7 +20,7 @@ use xt_core::stack_links;
 use xt_image::Image;
 use xt_map::Constants;
 use xt_search::{Changes, Machine};
-use xt_trace::Options;
+use xt_trace::{Options, StepKind};
 use xt_window::Windows;
 
 /// The constant bytes of an image, what memory holds as its runs open, whether time is part of the
@@ -130,8 +131,9 @@ impl<'a> Timed<'a> {
     ghost use Rattle.xt_exec.specs.Chips.{processor};
     ghost use Rattle.xt_search.specs.Meetings.{after};
     ghost use Rattle.xt_search.specs.Changed.{IsLean, contents_of};
-    ghost use Rattle.xt_outcomes.specs.Ahead.{IsAhead};
-    ghost use Rattle.xt_outcomes.specs.Dead.{are_fit, dead_at, fits, spot_forgotten};
+    ghost use Rattle.xt_outcomes.specs.Ahead.{IsAhead, IsReady};
+    ghost use Rattle.xt_outcomes.specs.Dead.{fits, spot_forgotten};
+    ghost use Rattle.xt_outcomes.specs.Passages.{AreUses, passage_fits};
     ghost use Rattle.xt_outcomes.specs.KeptWorlds.{bars, moved_spot, spot_of};
     ghost use Rattle.xt_outcomes.specs.Nexts.{TurnsFit, next_bars, side_next, spot_next};
     ghost use Rattle.xt_outcomes.specs.Places.{is_local, is_told, spot_run, turns_of};
@@ -176,31 +178,37 @@ impl<'a> Timed<'a> {
         Ok(next)
     }
 
-    // What matters for dead registers of a core's next turn, which is this one.
-    fn passage(&self, side: &Side, ahead: &Ahead) -> Passage
+    // What matters for dead registers of a core's next turn, which is this one, at whose program counter the
+    // instruction uses these.
+    fn passage(&self, side: &Side, ahead: &Ahead, uses: Uses) -> Passage
+        requires { AreUses (constant_byte self.now.code) side.now.state.control.pc uses }
         ensures { (m : MemoryContents) → IsAhead (constant_byte self.now.code) side.now.state m ahead.now
-            → are_fit (dead_at self.now.dead.masks.items result.from) result.reads result.stays result.write (dead_at self.now.dead.masks.items result.to) ≡ fits (constant_byte self.now.code) self.now.dead.masks.items side.now.state }
+            → passage_fits self.now.dead.masks.items result ≡ fits (constant_byte self.now.code) self.now.dead.masks.items side.now.state }
     {
         Passage {
             from: side.pc(),
             to: ahead.regs.pc,
-            reads: reads_at(&self.code, side.pc()),
+            reads: uses.reads,
             write: ahead.record.write,
             stays: ahead.regs.win.base() == side.base(),
+            reads_compare: uses.reads_compare,
+            writes_compare: are_both(executes(ahead.record.kind), uses.writes_compare),
         }
     }
 
     // Whether a turn fits what is taken for granted of registers.
     fn fits(&self, passage: &Passage) -> bool
-        ensures { result ≡ are_fit (dead_at self.now.dead.masks.items passage.now.from) passage.now.reads passage.now.stays passage.now.write (dead_at self.now.dead.masks.items passage.now.to) }
+        ensures { result ≡ passage_fits self.now.dead.masks.items passage.now }
     {
+        let before = self.dead.at(passage.from);
+        let after = self.dead.at(passage.to);
         are_fit(
-            self.dead.at(passage.from),
+            registers_in(before),
             passage.reads,
             passage.stays,
             passage.write,
-            self.dead.at(passage.to),
-        )
+            registers_in(after),
+        ) && is_compare_fit(before, passage.reads_compare, passage.writes_compare, after)
     }
 
     // Whether a core's next turn, which is this one, fits what is taken for granted of registers. It is
@@ -211,12 +219,15 @@ impl<'a> Timed<'a> {
         side: &Side,
         core: u8,
         ahead: &Ahead,
+        uses: Uses,
     ) -> Result<bool, AllocError>
+        requires { AreUses (constant_byte self.now.code) side.now.state.control.pc uses }
         ensures { (m : MemoryContents) → IsAhead (constant_byte self.now.code) side.now.state m ahead.now → IfOk result (λ b. b ≡ fits (constant_byte self.now.code) self.now.dead.masks.items side.now.state) }
     {
-        let passage = self.passage(side, ahead);
-        desk.note(core, ahead.record.access, &passage)?;
-        Ok(self.fits(&passage))
+        let passage = self.passage(side, ahead, uses);
+        let fits = self.fits(&passage);
+        desk.note(core, ahead.record.access, &passage, fits)?;
+        Ok(fits)
     }
 
     // Whether the search need not end before a core's next turn, which is this one. The only error is
@@ -231,15 +242,16 @@ impl<'a> Timed<'a> {
         requires left { 0 < side.now.left }
         ensures { (m : MemoryContents) → IsAhead (constant_byte self.now.code) side.now.state m ahead.now → IfOk result (λ b. b ≡ not (next_bars (constant_byte self.now.code) self.now.timed self.now.dead.masks.items side.now)) }
     {
-        if side.bars(&self.code, self.timed) {
+        let uses = uses_at(&self.code, side.pc());
+        if side.bars_by(&self.code, self.timed, uses.reads_time) {
             return Ok(false);
         }
-        let fits = self.is_fit(desk, side, core, ahead)?;
+        let fits = self.is_fit(desk, side, core, ahead, uses)?;
         Ok(fits)
     }
 
-    // Puts the next turn of a core in place of another one, and answers whether it meets nothing of the
-    // other core. The only error is running out of memory.
+    // Puts the next turn of a core in place of another one, whose registers are those of the core, and answers
+    // whether it meets nothing of the other core. The only error is running out of memory.
     fn local(
         &self,
         desk: &mut Desk,
@@ -248,6 +260,7 @@ impl<'a> Timed<'a> {
         changes: &Changes,
         ahead: &mut Ahead,
     ) -> Result<bool, AllocError>
+        requires ready { IsReady side.now.state ahead.old }
         ensures local { IfOk result (λ b. b ≡ is_local (constant_byte self.now.code) self.now.timed self.now.dead.masks.items self.now.places.list.items core side.now) }
         ensures left { IfOk result (λ b. b ≡ true → 0 < side.now.left) }
         ensures ahead { IfOk result (λ b. b ≡ true → IsAhead (constant_byte self.now.code) side.now.state (contents_of self.now.opening.contents changes.now) ahead.new) }
@@ -262,34 +275,36 @@ impl<'a> Timed<'a> {
         Ok(self.places.is_own(core, ahead.record.access))
     }
 
-    /// A core makes its next turn, whose access is served, and forgets its dead registers. The only error is
-    /// running out of memory.
+    /// A core makes its next turn, whose access is served, and forgets its dead registers. The registers of the
+    /// turn become those of the core. The only error is running out of memory.
     ///
     /// Conditions: the core has a turn left, and the turn is its next one.
     #[inline(always)]
     pub fn go_on(
         &self,
         side: &mut Side,
-        ahead: &Ahead,
+        ahead: &mut Ahead,
         changes: &mut Changes,
     ) -> Result<(), AllocError>
         requires left { 0 < side.old.left }
-        requires ahead { IsAhead (constant_byte self.now.code) side.old.state (contents_of self.now.opening.contents changes.old) ahead.now }
+        requires ahead { IsAhead (constant_byte self.now.code) side.old.state (contents_of self.now.opening.contents changes.old) ahead.old }
         ensures side { OnOk result (side.new ≡ side_next (processor (constant_byte self.now.code)) self.now.timed self.now.dead.masks.items side.old.left side.old (contents_of self.now.opening.contents changes.old)) }
         ensures memory { OnOk result (contents_of self.now.opening.contents changes.new ≡ memory_given (processor (constant_byte self.now.code)) side.old.left side.old.state (contents_of self.now.opening.contents changes.old)) }
         ensures lean { OnOk result (IsLean self.now.opening.contents changes.old → IsLean self.now.opening.contents changes.new) }
+        ensures ready { OnOk result (IsReady side.new.state ahead.new) }
     {
         serve(ahead.record.access, &self.opening, changes)?;
-        side.come_past(ahead, self.timed);
-        side.forget(&self.dead);
+        side.go_past(ahead, self.timed, &self.dead);
         Ok(())
     }
 
-    /// Whether a core's next turn, which is this one, fits what is taken for granted of registers.
-    pub fn fits_next(&self, side: &Side, ahead: &Ahead) -> bool
+    /// Whether a core's next turn, which is this one, fits what is taken for granted of registers; the
+    /// instruction at its program counter uses these.
+    pub fn fits_next(&self, side: &Side, ahead: &Ahead, uses: Uses) -> bool
+        requires { AreUses (constant_byte self.now.code) side.now.state.control.pc uses }
         ensures { (m : MemoryContents) → IsAhead (constant_byte self.now.code) side.now.state m ahead.now → result ≡ fits (constant_byte self.now.code) self.now.dead.masks.items side.now.state }
     {
-        self.fits(&self.passage(side, ahead))
+        self.fits(&self.passage(side, ahead, uses))
     }
 
     /// Whether the places tell of the next turn of a core.
@@ -311,7 +326,8 @@ impl<'a> Timed<'a> {
         }
         let none = Changes::new(self.alloc);
         let ahead = side.ahead(&self.code, &self.opening, &none);
-        self.is_fit(desk, side, core, &ahead)
+        let uses = uses_at(&self.code, side.pc());
+        self.is_fit(desk, side, core, &ahead, uses)
     }
 
     // A turn of a core more, unless the search has to end before it. The only error is running out of memory.
@@ -325,11 +341,11 @@ impl<'a> Timed<'a> {
         if side.left() == 0 {
             return Ok(());
         }
-        let ahead = side.ahead(&self.code, &self.opening, changes);
+        let mut ahead = side.ahead(&self.code, &self.opening, changes);
         if !self.is_free(desk, side, core, &ahead)? {
             return Ok(());
         }
-        self.go_on(side, &ahead, changes)
+        self.go_on(side, &mut ahead, changes)
     }
 
     // So many turns of a core more. The only error is running out of memory.
@@ -421,14 +437,14 @@ impl<'a> Timed<'a> {
             return Ok(None);
         }
         let mut side = first.copy();
-        self.go_on(&mut side, &ahead, &mut changes)?;
+        self.go_on(&mut side, &mut ahead, &mut changes)?;
         let mut turns = 1;
         for made in 0..self.most_local {
             if !self.local(desk, &side, core, &changes, &mut ahead)? {
                 let run = self.run_to(desk, world, core, side, changes, turns)?;
                 return Ok(Some(run));
             }
-            self.go_on(&mut side, &ahead, &mut changes)?;
+            self.go_on(&mut side, &mut ahead, &mut changes)?;
             turns += 1;
         }
         let run = self.run_to(desk, world, core, side, changes, turns)?;
@@ -465,6 +481,13 @@ impl<'a> Timed<'a> {
         };
         Ok(run)
     }
+}
+
+// Whether a turn of this kind executes an instruction.
+fn executes(kind: StepKind) -> bool
+    ensures { result ≡ executes kind }
+{
+    matches!(kind, StepKind::Insn)
 }
 
 // Whether neither core has a turn left.

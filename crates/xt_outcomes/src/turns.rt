@@ -1,5 +1,7 @@
 //! One turn of a core, from a world that is kept.
-ghost use Rattle.std.specs.Prelude.{◌≡◌, ◌-◌, ◌<◌, ◌≤◌, ◌||◌, if◌then◌else◌, true, IfOk, IfSome, OnOk};
+ghost use Rattle.std.specs.Prelude.{◌≡◌, ◌-◌, ◌<◌, ◌≤◌, ◌==◌, ◌||◌, if◌then◌else◌, not, true, bit_and, IfOk, IfSome, OnOk};
+ghost use Rattle.xt_map.specs.Fetching.{fetch_at};
+ghost use Rattle.xt_timeless.specs.Time.{fetches_time, timer_bits};
 ghost use Rattle.xt_map.specs.Memory.{HasSizes, constant_byte};
 ghost use Rattle.xt_map.specs.Regions.{is_mapped};
 ghost use Rattle.xt_map.specs.Code.{AreBytes};
@@ -10,18 +12,19 @@ ghost use Rattle.xt_exec.specs.States.{file_state};
 ghost use Rattle.xt_rows.specs.RowLaws.{IsWord};
 ghost use Rattle.xt_exec.specs.Turn.{demand, turn};
 ghost use Rattle.xt_exec.specs.TurnLaws.{IsShaped};
-ghost use Rattle.xt_outcomes.specs.Ahead.{IsAhead};
-ghost use Rattle.xt_outcomes.specs.Dead.{forgotten, side_forgotten};
+ghost use Rattle.xt_outcomes.specs.Ahead.{IsAhead, IsReady};
+ghost use Rattle.xt_outcomes.specs.Dead.{compare_cleared, forgotten, side_forgotten};
 ghost use Rattle.xt_outcomes.specs.SpotRaces.{next_of};
 ghost use Rattle.xt_outcomes.specs.Spots.{more_kept, side_bars, state_kept};
 
-use crate::dead::{Dead, forget};
+use crate::dead::{Dead, forget, has_compare, registers_in};
 use crate::sides::Side;
 use xt_bus::Memory;
 use xt_core::{StartedTurn, end_turn, start_turn};
 use xt_exec::Regs;
 use xt_map::{Access, Constants};
 use xt_search::Changes;
+use xt_special::{Special, number};
 use xt_timeless::{clear_time, uses_time};
 use xt_trace::{StepKind, StepRecord};
 use xt_window::WindowFile;
@@ -66,11 +69,30 @@ fn is_either(a: bool, b: bool) -> bool
     a || b
 }
 
+// The bits of INTERRUPT that the timers set: 6, 15 and 16.
+const TIMER_BITS: u32 = 0x1_8040;
+
+/// Whether INTENABLE has the bit of a timer.
+pub fn has_timer(intenable: u32) -> bool
+    ensures { result ≡ not (bit_and intenable timer_bits == 0) }
+{
+    intenable & TIMER_BITS != 0
+}
+
 // Whether a turn of this kind stops its core.
 fn stops(kind: StepKind) -> bool
     ensures { result ≡ is_stop kind }
 {
     matches!(kind, StepKind::Stop)
+}
+
+// Puts 0 into SCOMPARE1, if it is dead.
+fn forget_compare(is_dead: bool, special: &mut Special)
+    ensures { special.new ≡ record special.old { file = compare_cleared is_dead special.old.file } }
+{
+    if is_dead {
+        special.set_register(number::SCOMPARE1, 0);
+    }
 }
 
 // Leaves the registers out that are dead.
@@ -80,7 +102,8 @@ fn leave_dead(regs: &mut Regs<WindowFile>, dead: &Dead)
     ensures shaped { IsShaped (file_state regs.new) }
 {
     let mask = dead.at(regs.pc);
-    forget(mask, &mut regs.win);
+    forget(registers_in(mask), &mut regs.win);
+    forget_compare(has_compare(mask), &mut regs.sr);
 }
 
 // One turn with the reply that its access gets, and its record.
@@ -130,6 +153,20 @@ impl Side {
         self.left != 0 && uses_time(&self.regs, code)
     }
 
+    /// The same, where the instruction at the program counter reads a register of time or not.
+    pub fn bars_by(&self, code: &Constants, timed: bool, reads_time: bool) -> bool
+        requires { reads_time ≡ fetches_time (fetch_at (constant_byte code.now) self.now.state.control.pc) }
+        ensures { result ≡ side_bars (constant_byte code.now) timed self.now }
+    {
+        if timed || self.left == 0 {
+            return false;
+        }
+        if reads_time {
+            return uses_time(&self.regs, code);
+        }
+        has_timer(self.regs.sr.register(number::INTENABLE))
+    }
+
     /// The core's next turn, with the reply that its access gets.
     #[inline(always)]
     pub fn ahead(&self, code: &Constants, opening: &Memory, changes: &Changes) -> Ahead
@@ -143,6 +180,8 @@ impl Side {
     }
 
     /// Puts the core's next turn, with the reply that its access gets, in place of another one.
+    ///
+    /// Condition: the registers of that are those of the core.
     #[inline(always)]
     pub fn look_ahead(
         &self,
@@ -153,9 +192,9 @@ impl Side {
     )
         requires sizes { HasSizes opening.now.contents }
         requires bytes { AreBytes (constant_byte code.now) }
+        requires ready { IsReady self.now.state ahead.old }
         ensures { IsAhead (constant_byte code.now) self.now.state (contents_of opening.now.contents changes.now) ahead.new }
     {
-        ahead.regs = self.regs;
         ahead.record = begun_turn(&mut ahead.regs, code, opening, changes);
     }
 
@@ -177,6 +216,29 @@ impl Side {
         self.stopped = is_either(self.stopped, stops);
         self.regs = ahead.regs;
         leave_time(&mut self.regs, timed);
+    }
+
+    /// The core comes past its next turn; without time, where it is not timed, and without the registers that
+    /// are dead. The registers of the turn become those of the core.
+    ///
+    /// Condition: the core has a turn left.
+    #[inline(always)]
+    pub(crate) fn go_past(&mut self, ahead: &mut Ahead, timed: bool, dead: &Dead)
+        requires left { 0 < self.old.left }
+        requires shaped { IsShaped (file_state ahead.old.regs) }
+        ensures side { self.new ≡ side_forgotten dead.now.masks.items (record {
+          state = state_kept timed (file_state ahead.old.regs);
+          left = left_past ahead.old.record (more_kept timed (self.old.left - 1));
+          stopped = self.old.stopped || is_stop ahead.old.record.kind;
+        }) }
+        ensures ready { IsReady self.new.state ahead.new }
+    {
+        let stops = stops(ahead.record.kind);
+        self.left = left_after(self.left, stops, timed);
+        self.stopped = is_either(self.stopped, stops);
+        leave_time(&mut ahead.regs, timed);
+        leave_dead(&mut ahead.regs, dead);
+        self.regs = ahead.regs;
     }
 
     /// Leaves the registers out that are dead.

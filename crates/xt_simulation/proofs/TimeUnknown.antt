@@ -57,7 +57,7 @@ use Rattle.xt_simulation.specs.SecretLaws.{FitsAccess, executed}
 use Rattle.xt_simulation.proofs.Law.{turns_with_known_uses_agree}
 use Rattle.xt_simulation.proofs.SecretSpecials.{differs, unequal}
 use Rattle.xt_timeless.specs.Time.{executes, fetches_time, is_of_time, reads_time, timer_bits, uses_time, without_time}
-use Rattle.xt_timeless.specs.Alike.{AreAlike, may_differ}
+use Rattle.xt_timeless.specs.Alike.{AreAlike, Clocks, may_differ}
 use Rattle.xt_simulation.specs.TimeUnknown.{TimeIsUnknown, all_but_time, timeless_mask}
 use Rattle.xt_timeless.proofs.Lists.{alike_from, same_cleared}
 
@@ -117,20 +117,26 @@ and_true : (b : Bool) → (b && true) ≡ false → b ≡ false
 and_true true e = e
 and_true false e = e
 
-may_not_differ : (n : ℕ) → is_of_time n ≡ false → may_differ true n ≡ false
+may_not_differ : (n : ℕ) → is_of_time n ≡ false → may_differ Clocks n ≡ false
 may_not_differ n h =
     let p = or_parts (eqb n 234) (eqb n 226 || (eqb n 240 || (eqb n 241 || eqb n 242))) h in
     let q = or_parts (eqb n 226) (eqb n 240 || (eqb n 241 || eqb n 242)) p.1 in
-    λ i. q.0 i || ((p.0 i || q.1 i) && true)
+    (λ i. (q.0 i && true) || (((p.0 i || q.1 i) && true) || (eqb n 12 && false))) ∙ never (eqb n 12)
+  where
+    never : (b : Bool) → (b && false) ≡ false
+    never true = refl
+    never false = refl
 
-is_not_of_time : (n : ℕ) → may_differ true n ≡ false → is_of_time n ≡ false
+is_not_of_time : (n : ℕ) → may_differ Clocks n ≡ false → is_of_time n ≡ false
 is_not_of_time n h =
     let clocks = eqb n 234 || (eqb n 240 || (eqb n 241 || eqb n 242)) in
-    let p = or_parts (eqb n 226) (clocks && true) h in
-    let q = or_parts (eqb n 234) (eqb n 240 || (eqb n 241 || eqb n 242)) (and_true clocks p.1) in
-    λ i. q.0 i || (p.0 i || q.1 i)
+    let p = or_parts (eqb n 226 && true) ((clocks && true) || (eqb n 12 && false)) h in
+    let r = or_parts (clocks && true) (eqb n 12 && false) p.1 in
+    let q = or_parts (eqb n 234) (eqb n 240 || (eqb n 241 || eqb n 242)) (and_true clocks r.0) in
+    let interrupt = and_true (eqb n 226) p.0 in
+    λ i. q.0 i || (interrupt i || q.1 i)
 
-agree_special : (xs ys : List ℕ) → AreAlike true xs ys → (n : ℕ) → AgreeIn (timeless_mask n) (slice_index xs n) (slice_index ys n)
+agree_special : (xs ys : List ℕ) → AreAlike Clocks xs ys → (n : ℕ) → AgreeIn (timeless_mask n) (slice_index xs n) (slice_index ys n)
 unfolding without_bits
 agree_special xs ys a =
     by_register (λ n. AgreeIn (timeless_mask n) (slice_index xs n) (slice_index ys n)) a.interrupt (agree_none _ _) (agree_none _ _) (agree_none _ _) (agree_none _ _)

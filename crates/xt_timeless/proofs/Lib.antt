@@ -7,3 +7,4 @@ pub mod Going
 pub mod Executing
 pub mod Shaped
 pub mod Waiting
+pub mod Comparing

@@ -9,7 +9,6 @@ use Rattle.xt_isa.specs.declared.density.Density.TheVariants as density
 use Rattle.xt_isa.specs.declared.density.BareName.TheVariants as BareName
 use Rattle.xt_isa.specs.declared.system.System.TheVariants as system
 use Rattle.xt_isa.specs.declared.system.SpecialName.TheVariants as SpecialName
-use Rattle.xt_isa.specs.Ranges.{in_range}
 use Rattle.xt_special.specs.Control.{Control, special_of}
 use Rattle.xt_special.specs.Access.{SpecialWrites, with_sets}
 use Rattle.xt_special.specs.Timers.{after_tick}
@@ -38,7 +37,7 @@ use Rattle.xt_map.proofs.Fetches.{fetched_range}
 use Rattle.xt_exec.specs.State.{State}
 use Rattle.xt_exec.specs.Turn.{Planned, turn_or_overflow, outcome_turn, entry_turn, fetched_turn, in_window, is_illegal, moved_stack, overflow, planned_turn, raises, resuming_turn, return_pc, return_size, return_turn, underflow, window_check, window_exception, window_step, window_turn}
 use Rattle.xt_timeless.specs.Time.{executes, fetches_time, reads_time, special_without_time, timer_bits, uses_time, without_time}
-use Rattle.xt_timeless.specs.Alike.{AreAlike}
+use Rattle.xt_timeless.specs.Alike.{AreAlike, Clocks, Compare, Difference, Timers, IsRanged, fetches_difference, reads_difference}
 use Rattle.xt_timeless.specs.TimeLaws.{AreSame, TimeIsUsedByBoth, TurnsKeepTimeOut}
 use Rattle.xt_timeless.proofs.Lists.{alike_sym, cleared_alike, same_cleared}
 use Rattle.xt_timeless.proofs.Keeping.{IsKept, kept, kept_effect, kept_exception, kept_flow, kept_interrupt, kept_pending, kept_tick, kept_window, sets_alike, with_special}
@@ -46,35 +45,35 @@ use Rattle.xt_timeless.proofs.Same.{AreAlikeOutcomes, outcomes_alike}
 
 -- ---- states
 
-pub record IsKeptState (clocks : Bool) (s t : State) : Type 0 where
+pub record IsKeptState (gap : Difference) (s t : State) : Type 0 where
   pub list : List ℕ
-  pub alike : AreAlike clocks s.control.special list
+  pub alike : AreAlike gap s.control.special list
   pub is : t ≡ record s { control = with_special s.control list }
 
-kept_state : {clocks : Bool} → (s : State) (c d : Control) → IsKept clocks c d → IsKeptState clocks (record s { control = c }) (record s { control = d })
+kept_state : {gap : Difference} → (s : State) (c d : Control) → IsKept gap c d → IsKeptState gap (record s { control = c }) (record s { control = d })
 kept_state s c d k = record { list = k.list; alike = k.alike; is = ap (λ (x : Control). let t : State = record s { control = x } in t) k.is }
 
-pub record AreKept (clocks : Bool) (p q : Planned) : Type 0 where
+pub record AreKept (gap : Difference) (p q : Planned) : Type 0 where
   pub kind : p.kind ≡ q.kind
   pub write : p.write ≡ q.write
   pub access : p.access ≡ q.access
   pub awaited : p.awaited ≡ q.awaited
-  pub after : IsKeptState clocks p.after q.after
+  pub after : IsKeptState gap p.after q.after
 
-step_kept : {clocks : Bool} → (write : Option RegWrite) (s : State) (c d : Control) → IsKept clocks c d → AreKept clocks (window_step write (record s { control = c })) (window_step write (record s { control = d }))
+step_kept : {gap : Difference} → (write : Option RegWrite) (s : State) (c d : Control) → IsKept gap c d → AreKept gap (window_step write (record s { control = c })) (window_step write (record s { control = d }))
 step_kept write s c d k = record { kind = refl; write = refl; access = refl; awaited = refl; after = kept_state s (after_tick c) (after_tick d) (kept_tick c d k) }
 
-module _ {clocks : Bool} (s : State) (ys : List ℕ) (a : AreAlike clocks s.control.special ys) where
-  falls_kept : (len : ℕ) → IsKept clocks (after_flow Falls len s.control) (after_flow Falls len (with_special s.control ys))
+module _ {gap : Difference} (s : State) (ys : List ℕ) (a : AreAlike gap s.control.special ys) where
+  falls_kept : (len : ℕ) → IsKept gap (after_flow Falls len s.control) (after_flow Falls len (with_special s.control ys))
   falls_kept len = kept_flow s.control ys a Falls len
 
-  raises_kept : (cause : ℕ) (address : Option ℕ) → IsKeptState clocks (record s { control = after_tick (after_exception cause address s.control) }) (record s { control = after_tick (after_exception cause address (with_special s.control ys)) })
+  raises_kept : (cause : ℕ) (address : Option ℕ) → IsKeptState gap (record s { control = after_tick (after_exception cause address s.control) }) (record s { control = after_tick (after_exception cause address (with_special s.control ys)) })
   raises_kept cause address = kept_state s _ _ (kept_tick _ _ (kept_exception s.control ys a cause address))
 
-  raised_kept : (cause : ℕ) → AreKept clocks (raises cause s) (raises cause (record s { control = with_special s.control ys }))
+  raised_kept : (cause : ℕ) → AreKept gap (raises cause s) (raises cause (record s { control = with_special s.control ys }))
   raised_kept cause = record { kind = refl; write = refl; access = refl; awaited = refl; after = raises_kept cause None }
 
-  exception_kept : (vector base : ℕ) → AreKept clocks (window_exception vector base s) (window_exception vector base (record s { control = with_special s.control ys }))
+  exception_kept : (vector base : ℕ) → AreKept gap (window_exception vector base s) (window_exception vector base (record s { control = with_special s.control ys }))
   exception_kept vector base = record {
     kind = refl;
     write = refl;
@@ -83,23 +82,23 @@ module _ {clocks : Bool} (s : State) (ys : List ℕ) (a : AreAlike clocks s.cont
     after = kept_state (record s { base = base }) _ _ (kept_tick _ _ (kept_window s.control ys a s.base vector));
   }
 
-  overflow_kept : (distance : ℕ) → AreKept clocks (overflow distance s) (overflow distance (record s { control = with_special s.control ys }))
+  overflow_kept : (distance : ℕ) → AreKept gap (overflow distance s) (overflow distance (record s { control = with_special s.control ys }))
   unfolding overflow
   overflow_kept distance = exception_kept (2 * (size_at s.start (s.base + distance) - 1)) (base_after_call s.base distance)
 
-  underflow_kept : (size : ℕ) → AreKept clocks (underflow size s) (underflow size (record s { control = with_special s.control ys }))
+  underflow_kept : (size : ℕ) → AreKept gap (underflow size s) (underflow size (record s { control = with_special s.control ys }))
   unfolding underflow
   underflow_kept size = exception_kept (2 * (size - 1) + 1) (base_after_return s.base size)
 
   -- ---- steps of windows
 
-  entered_kept : (number value len : ℕ) → AreKept clocks (entry_turn number value len s) (entry_turn number value len (record s { control = with_special s.control ys }))
+  entered_kept : (number value len : ℕ) → AreKept gap (entry_turn number value len s) (entry_turn number value len (record s { control = with_special s.control ys }))
   unfolding entry_turn
   entered_kept number value len =
       let base = base_after_call s.base s.control.ps.callinc in
       step_kept (write_to number value) (record s { base = base; start = with_bit s.start base }) _ _ (falls_kept len)
 
-  returned_kept : (a0 : ℕ) → AreKept clocks (return_turn a0 s) (return_turn a0 (record s { control = with_special s.control ys }))
+  returned_kept : (a0 : ℕ) → AreKept gap (return_turn a0 s) (return_turn a0 (record s { control = with_special s.control ys }))
   unfolding return_turn
   returned_kept a0 = by_test (bit s.start (base_after_return s.base (return_size a0)))
     where
@@ -110,20 +109,20 @@ module _ {clocks : Bool} (s : State) (ys : List ℕ) (a : AreAlike clocks s.cont
         control = record u.control { pc = return_pc s.control.pc a0 };
       })
 
-      by_test : (b : Bool) → AreKept clocks (cond b (back s) (underflow (return_size a0) s))
+      by_test : (b : Bool) → AreKept gap (cond b (back s) (underflow (return_size a0) s))
           (cond b (back (record s { control = with_special s.control ys })) (underflow (return_size a0) (record s { control = with_special s.control ys })))
       by_test true =
           step_kept None (record s { base = base_after_return s.base (return_size a0); start = without_bit s.start s.base }) (record s.control { pc = return_pc s.control.pc a0 }) _
           (kept (record s.control { pc = return_pc s.control.pc a0 }) ys a)
       by_test false = underflow_kept (return_size a0)
 
-  resumed_kept : (start epc1 : ℕ) → AreKept clocks (resuming_turn start epc1 s) (resuming_turn start epc1 (record s { control = with_special s.control ys }))
+  resumed_kept : (start epc1 : ℕ) → AreKept gap (resuming_turn start epc1 s) (resuming_turn start epc1 (record s { control = with_special s.control ys }))
   unfolding resuming_turn
   resumed_kept start epc1 =
       step_kept None (record s { base = s.control.ps.owb; start = start }) (record s.control { pc = epc1; ps = record s.control.ps { excm = false } }) _
       (kept (record s.control { pc = epc1; ps = record s.control.ps { excm = false } }) ys a)
 
-  moved_kept : (number value len : ℕ) → AreKept clocks (moved_stack number value len s) (moved_stack number value len (record s { control = with_special s.control ys }))
+  moved_kept : (number value len : ℕ) → AreKept gap (moved_stack number value len s) (moved_stack number value len (record s { control = with_special s.control ys }))
   unfolding moved_stack
   moved_kept number value len = by_test (eqb (behind s.start s.base) 0)
     where
@@ -131,12 +130,12 @@ module _ {clocks : Bool} (s : State) (ys : List ℕ) (a : AreAlike clocks s.cont
       moved c = window_step (write_to number value) (record s { control = c })
 
       by_test : (b : Bool)
-          → AreKept clocks (cond b (raises 5 s) (moved (after_flow Falls len s.control)))
+          → AreKept gap (cond b (raises 5 s) (moved (after_flow Falls len s.control)))
           (cond b (raises 5 (record s { control = with_special s.control ys })) (moved (after_flow Falls len (with_special s.control ys))))
       by_test true = raised_kept 5
       by_test false = step_kept (write_to number value) s _ _ (falls_kept len)
 
-  windowed_kept : (step : WindowStep) (len : ℕ) → AreKept clocks (window_turn step len s) (window_turn step len (record s { control = with_special s.control ys }))
+  windowed_kept : (step : WindowStep) (len : ℕ) → AreKept gap (window_turn step len s) (window_turn step len (record s { control = with_special s.control ys }))
   windowed_kept (Enters number value) len = entered_kept number value len
   windowed_kept (Returns a0) len = returned_kept a0
   windowed_kept (EndsOverflow epc1) len = resumed_kept (without_bit s.start s.base) epc1
@@ -152,8 +151,8 @@ module _ {clocks : Bool} (s : State) (ys : List ℕ) (a : AreAlike clocks s.cont
 
   -- ---- outcomes
 
-  does_kept : (e : Effect) (sets : SpecialWrites) (len : ℕ) → AreAlike clocks (with_sets e.sets s.control.special) (with_sets sets ys)
-      → AreKept clocks (outcome_turn (Does e) len s) (outcome_turn (Does (record e { sets = sets })) len (record s { control = with_special s.control ys }))
+  does_kept : (e : Effect) (sets : SpecialWrites) (len : ℕ) → AreAlike gap (with_sets e.sets s.control.special) (with_sets sets ys)
+      → AreKept gap (outcome_turn (Does e) len s) (outcome_turn (Does (record e { sets = sets })) len (record s { control = with_special s.control ys }))
   does_kept e sets len al = record {
     kind = refl;
     write = refl;
@@ -162,7 +161,7 @@ module _ {clocks : Bool} (s : State) (ys : List ℕ) (a : AreAlike clocks s.cont
     after = kept_state s _ _ (kept_tick _ _ (kept_effect e sets len s.control ys al));
   }
 
-  outcome_kept : (o : Outcome) (len : ℕ) → AreKept clocks (outcome_turn o len s) (outcome_turn o len (record s { control = with_special s.control ys }))
+  outcome_kept : (o : Outcome) (len : ℕ) → AreKept gap (outcome_turn o len s) (outcome_turn o len (record s { control = with_special s.control ys }))
   outcome_kept (Does e) len = does_kept e e.sets len (sets_alike e.sets s.control.special ys a)
   outcome_kept (Raises cause address) len = record { kind = refl; write = refl; access = refl; awaited = refl; after = raises_kept cause address }
   outcome_kept (Asks access awaited e) len = record {
@@ -175,13 +174,13 @@ module _ {clocks : Bool} (s : State) (ys : List ℕ) (a : AreAlike clocks s.cont
   outcome_kept Stops len = record { kind = refl; write = refl; access = refl; awaited = refl; after = kept_state s _ _ (kept_tick _ _ (kept s.control ys a)) }
   outcome_kept (Windowed step) len = windowed_kept step len
 
-  done_kept : (o p : Outcome) (len : ℕ) → AreAlikeOutcomes clocks s.control.special ys o p → AreKept clocks (outcome_turn o len s) (outcome_turn p len (record s { control = with_special s.control ys }))
+  done_kept : (o p : Outcome) (len : ℕ) → AreAlikeOutcomes gap s.control.special ys o p → AreKept gap (outcome_turn o len s) (outcome_turn p len (record s { control = with_special s.control ys }))
   done_kept o p len h =
       ⊎_elim
-      (λ (e : o ≡ p). subst (λ (q : Outcome). AreKept clocks (outcome_turn o len s) (outcome_turn q len (record s { control = with_special s.control ys }))) e (outcome_kept o len))
-      (λ (d : (e : Effect) × (sets : SpecialWrites) × (o ≡ Does e) × (p ≡ Does (record e { sets = sets })) × AreAlike clocks (with_sets e.sets s.control.special) (with_sets sets ys)).
-      subst (λ (q : Outcome). AreKept clocks (outcome_turn q len s) (outcome_turn p len (record s { control = with_special s.control ys }))) (sym d.2)
-      (subst (λ (q : Outcome). AreKept clocks (outcome_turn (Does d.0) len s) (outcome_turn q len (record s { control = with_special s.control ys }))) (sym d.3) (does_kept d.0 d.1 len d.4)))
+      (λ (e : o ≡ p). subst (λ (q : Outcome). AreKept gap (outcome_turn o len s) (outcome_turn q len (record s { control = with_special s.control ys }))) e (outcome_kept o len))
+      (λ (d : (e : Effect) × (sets : SpecialWrites) × (o ≡ Does e) × (p ≡ Does (record e { sets = sets })) × AreAlike gap (with_sets e.sets s.control.special) (with_sets sets ys)).
+      subst (λ (q : Outcome). AreKept gap (outcome_turn q len s) (outcome_turn p len (record s { control = with_special s.control ys }))) (sym d.2)
+      (subst (λ (q : Outcome). AreKept gap (outcome_turn (Does d.0) len s) (outcome_turn q len (record s { control = with_special s.control ys }))) (sym d.3) (does_kept d.0 d.1 len d.4)))
       h
 
 -- ---- an instruction that reads a register of time is executed, where it comes to that
@@ -206,9 +205,15 @@ time_kind code _ registers c len s h = absurd (true≢false (sym h))
 
 -- ---- the stages of a turn
 
--- the turns are the same but for time, or both execute an instruction that reads it
-abbrev Stage : Bool → Bool → Planned → Planned → Type 0
-Stage clocks time p q = AreKept clocks p q ⊎ ((p.kind ≡ kind.Insn) × (q.kind ≡ kind.Insn) × (time ≡ true))
+-- both execute an instruction, if they read time
+abbrev pub AreExecuted : Difference → Planned → Planned → Type 0
+AreExecuted Timers p q = (p.kind ≡ kind.Insn) × (q.kind ≡ kind.Insn)
+AreExecuted Clocks p q = (p.kind ≡ kind.Insn) × (q.kind ≡ kind.Insn)
+AreExecuted Compare p q = Unit {0}
+
+-- the turns are the same but for what may differ, or an instruction is executed that reads it
+abbrev pub Stage : Difference → Bool → Planned → Planned → Type 0
+Stage gap reads p q = AreKept gap p q ⊎ (AreExecuted gap p q × (reads ≡ true))
 
 illegal_same : (i : Insn) (s : State) (ys : List ℕ) → is_illegal i s ≡ is_illegal i (record s { control = with_special s.control ys })
 unfolding is_illegal
@@ -217,47 +222,51 @@ illegal_same (insn.Control (control.Return ReturnName.Retw)) s ys = refl
 illegal_same (insn.Density (density.Bare BareName.Retw)) s ys = refl
 illegal_same _ s ys = refl
 
-module _ {clocks : Bool} (code : ℕ → ℕ) (s : State) (ys : List ℕ) (a : AreAlike clocks s.control.special ys) where
-  done_stage : (i : Insn) (len : ℕ) (b : Bool) → reads_time i ≡ b → in_range i ≡ true
-      → Stage clocks b (outcome_turn (outcome_at code i (visible s.regs s.base) s.control) len s)
+module _ {gap : Difference} (code : ℕ → ℕ) (s : State) (ys : List ℕ) (a : AreAlike gap s.control.special ys) where
+  executed : (by : Difference) (i : Insn) (len : ℕ) → reads_difference by i ≡ true
+      → AreExecuted by (outcome_turn (outcome_at code i (visible s.regs s.base) s.control) len s)
+      (outcome_turn (outcome_at code i (visible s.regs s.base) (with_special s.control ys)) len (record s { control = with_special s.control ys }))
+  executed Timers i len h =
+      (time_kind code i (visible s.regs s.base) s.control len s h, time_kind code i (visible s.regs s.base) (with_special s.control ys) len (record s { control = with_special s.control ys }) h)
+  executed Clocks i len h =
+      (time_kind code i (visible s.regs s.base) s.control len s h, time_kind code i (visible s.regs s.base) (with_special s.control ys) len (record s { control = with_special s.control ys }) h)
+  executed Compare i len h = tt
+
+  done_stage : (i : Insn) (len : ℕ) (b : Bool) → reads_difference gap i ≡ b → IsRanged gap i
+      → Stage gap b (outcome_turn (outcome_at code i (visible s.regs s.base) s.control) len s)
       (outcome_turn (outcome_at code i (visible s.regs s.base) (with_special s.control ys)) len (record s { control = with_special s.control ys }))
   done_stage i len false h ok =
       inl (done_kept s ys a (outcome_at code i (visible s.regs s.base) s.control) (outcome_at code i (visible s.regs s.base) (with_special s.control ys)) len
       (outcomes_alike code (visible s.regs s.base) s.control ys a i ok h))
-  done_stage i len true h ok =
-      inr (
-        time_kind code i (visible s.regs s.base) s.control len s h,
-        time_kind code i (visible s.regs s.base) (with_special s.control ys) len (record s { control = with_special s.control ys }) h,
-        refl,
-      )
+  done_stage i len true h ok = inr (executed gap i len h, refl)
 
-  checked_stage : (distance : ℕ) (i : Insn) (len : ℕ) → in_range i ≡ true → Stage clocks (reads_time i) (turn_or_overflow distance code i len s) (turn_or_overflow distance code i len (record s { control = with_special s.control ys }))
-  checked_stage zero i len ok = done_stage i len (reads_time i) refl ok
+  checked_stage : (distance : ℕ) (i : Insn) (len : ℕ) → IsRanged gap i → Stage gap (reads_difference gap i) (turn_or_overflow distance code i len s) (turn_or_overflow distance code i len (record s { control = with_special s.control ys }))
+  checked_stage zero i len ok = done_stage i len (reads_difference gap i) refl ok
   checked_stage (suc distance) i len ok = inl (overflow_kept s ys a (suc distance))
 
-  fetched_stage : (f : Fetched) → ((i : Insn) (len : ℕ) → f ≡ Fetches i len → in_range i ≡ true)
-      → Stage clocks (fetches_time f) (fetched_turn f code s) (fetched_turn f code (record s { control = with_special s.control ys }))
+  fetched_stage : (f : Fetched) → ((i : Insn) (len : ℕ) → f ≡ Fetches i len → IsRanged gap i)
+      → Stage gap (fetches_difference gap f) (fetched_turn f code s) (fetched_turn f code (record s { control = with_special s.control ys }))
   fetched_stage (Fails address) ok = inl (record { kind = refl; write = refl; access = refl; awaited = refl; after = raises_kept s ys a 2 (Some address) })
   fetched_stage SpellsNothing ok = inl (raised_kept s ys a 0)
   fetched_stage (Fetches i len) ok =
-      subst (λ (b : Bool). Stage clocks (reads_time i) (choice (is_illegal i s) s) (choice b (record s { control = with_special s.control ys }))) (illegal_same i s ys) (by_test (is_illegal i s))
+      subst (λ (b : Bool). Stage gap (reads_difference gap i) (choice (is_illegal i s) s) (choice b (record s { control = with_special s.control ys }))) (illegal_same i s ys) (by_test (is_illegal i s))
     where
       choice : Bool → State → Planned
       choice b u = cond b (raises 0 u) (turn_or_overflow (window_check i s) code i len u)
 
-      by_test : (b : Bool) → Stage clocks (reads_time i) (choice b s) (choice b (record s { control = with_special s.control ys }))
+      by_test : (b : Bool) → Stage gap (reads_difference gap i) (choice b s) (choice b (record s { control = with_special s.control ys }))
       by_test true = inl (raised_kept s ys a 0)
       by_test false = checked_stage (window_check i s) i len (ok i len refl)
 
-  pub planned_stage : AreBytes code → pending_of s.control ≡ pending_of (with_special s.control ys)
-      → Stage clocks (fetches_time (fetch_at code s.control.pc)) (planned_turn code s) (planned_turn code (record s { control = with_special s.control ys }))
+  pub planned_stage : ((i : Insn) (len : ℕ) → fetch_at code s.control.pc ≡ Fetches i len → IsRanged gap i) → pending_of s.control ≡ pending_of (with_special s.control ys)
+      → Stage gap (fetches_difference gap (fetch_at code s.control.pc)) (planned_turn code s) (planned_turn code (record s { control = with_special s.control ys }))
   unfolding planned_turn
-  planned_stage bytes same =
-      subst (λ (l : ℕ). Stage clocks time (body (pending_of s.control) s) (body l (record s { control = with_special s.control ys }))) same
+  planned_stage ranged same =
+      subst (λ (l : ℕ). Stage gap time (body (pending_of s.control) s) (body l (record s { control = with_special s.control ys }))) same
       (by_tests (nat_lt 0 (pending_of s.control)) s.control.waits)
     where
       time : Bool
-      time = fetches_time (fetch_at code s.control.pc)
+      time = fetches_difference gap (fetch_at code s.control.pc)
 
       choice : Bool → Bool → ℕ → State → Planned
       choice b w l u = cond b (in_window (settled_interrupt l u.control) u) (cond w (in_window (settled_wait u.control) u) (fetched_turn (fetch_at code s.control.pc) code u))
@@ -265,7 +274,7 @@ module _ {clocks : Bool} (code : ℕ → ℕ) (s : State) (ys : List ℕ) (a : A
       body : ℕ → State → Planned
       body l u = choice (nat_lt 0 l) s.control.waits l u
 
-      by_tests : (b w : Bool) → Stage clocks time (choice b w (pending_of s.control) s) (choice b w (pending_of s.control) (record s { control = with_special s.control ys }))
+      by_tests : (b w : Bool) → Stage gap time (choice b w (pending_of s.control) s) (choice b w (pending_of s.control) (record s { control = with_special s.control ys }))
       by_tests true w = inl (record {
         kind = refl;
         write = refl;
@@ -274,11 +283,11 @@ module _ {clocks : Bool} (code : ℕ → ℕ) (s : State) (ys : List ℕ) (a : A
         after = kept_state s _ _ (kept_tick _ _ (kept_interrupt s.control ys a (pending_of s.control)));
       })
       by_tests false true = inl (record { kind = refl; write = refl; access = refl; awaited = refl; after = kept_state s _ _ (kept_tick _ _ (kept s.control ys a)) })
-      by_tests false false = fetched_stage (fetch_at code s.control.pc) (λ i len e. fetched_range code s.control.pc i len bytes e)
+      by_tests false false = fetched_stage (fetch_at code s.control.pc) ranged
 
 -- ---- time is left out
 
-kept_same : (p q : Planned) → AreKept true p q → AreSame p q
+kept_same : (p q : Planned) → AreKept Clocks p q → AreSame p q
 kept_same p q k =
     let list = k.after.list in
     let put : List ℕ → State = λ l. record p.after { control = with_special p.after.control l } in
@@ -298,7 +307,7 @@ same_trans p q r h k = record { kind = h.kind ∙ k.kind; write = h.write ∙ k.
 
 -- a state beside the same without time
 module _ (code : ℕ → ℕ) (bytes : AreBytes code) (s : State) where
-  cleared : AreAlike true s.control.special (special_without_time s.control.special)
+  cleared : AreAlike Clocks s.control.special (special_without_time s.control.special)
   cleared = alike_sym (special_without_time s.control.special) s.control.special (cleared_alike s.control.special)
 
   both_use : (b : Bool) → eqb (bit_and (special_of s.control 228) timer_bits) 0 ≡ b → uses_time code s ≡ uses_time code (without_time s)
@@ -312,16 +321,16 @@ module _ (code : ℕ → ℕ) (bytes : AreBytes code) (s : State) where
       m : Bool
       m = eqb (bit_and (special_of (without_time s).control 228) timer_bits) 0
 
-      kinds : Stage true f (planned_turn code s) (planned_turn code (without_time s)) → (executes (planned_turn code s).kind && f) ≡ (executes (planned_turn code (without_time s)).kind && f)
+      kinds : Stage Clocks f (planned_turn code s) (planned_turn code (without_time s)) → (executes (planned_turn code s).kind && f) ≡ (executes (planned_turn code (without_time s)).kind && f)
       kinds st = ⊎_elim
-          (λ (k : AreKept true (planned_turn code s) (planned_turn code (without_time s))). ap (λ (d : StepKind). executes d && f) k.kind)
-          (λ (k : ((planned_turn code s).kind ≡ kind.Insn) × ((planned_turn code (without_time s)).kind ≡ kind.Insn) × (f ≡ true)). ap (λ (d : StepKind). executes d && f) (k.0 ∙ sym k.1))
+          (λ (k : AreKept Clocks (planned_turn code s) (planned_turn code (without_time s))). ap (λ (d : StepKind). executes d && f) k.kind)
+          (λ (k : AreExecuted Clocks (planned_turn code s) (planned_turn code (without_time s)) × (f ≡ true)). ap (λ (d : StepKind). executes d && f) (k.0.0 ∙ sym k.0.1))
           st
 
       by_test : (b : Bool) → m ≡ b → (not m || (executes (planned_turn code s).kind && f)) ≡ (not m || (executes (planned_turn code (without_time s)).kind && f))
       by_test true g =
           let none = eqb-true (bit_and (special_of s.control 228) timer_bits) 0 (ap (λ (v : ℕ). eqb (bit_and v timer_bits) 0) (cleared.same 228 refl) ∙ g) in
-          ap (λ (z : Bool). not m || z) (kinds (planned_stage code s (special_without_time s.control.special) cleared bytes (kept_pending s.control (special_without_time s.control.special) cleared none)))
+          ap (λ (z : Bool). not m || z) (kinds (planned_stage code s (special_without_time s.control.special) cleared (λ i len e. fetched_range code s.control.pc i len bytes e) (kept_pending s.control (special_without_time s.control.special) cleared none)))
       by_test false g = ap (λ (k : Bool). not k || (executes (planned_turn code s).kind && f)) g ∙ sym (ap (λ (k : Bool). not k || (executes (planned_turn code (without_time s)).kind && f)) g)
 
   pub uses_alike : uses_time code s ≡ uses_time code (without_time s)
@@ -332,11 +341,11 @@ module _ (code : ℕ → ℕ) (bytes : AreBytes code) (s : State) where
       let parts = or_parts (not (eqb (bit_and (special_of s.control 228) timer_bits) 0)) (executes (planned_turn code s).kind && fetches_time (fetch_at code s.control.pc)) free in
       let none = eqb-true (bit_and (special_of s.control 228) timer_bits) 0 (not_false (eqb (bit_and (special_of s.control 228) timer_bits) 0) parts.0) in
       ⊎_elim
-      (λ (k : AreKept true (planned_turn code s) (planned_turn code (without_time s))). kept_same (planned_turn code s) (planned_turn code (without_time s)) k)
-      (λ (k : ((planned_turn code s).kind ≡ kind.Insn) × ((planned_turn code (without_time s)).kind ≡ kind.Insn) × (fetches_time (fetch_at code s.control.pc) ≡ true)).
-      let g : true ≡ false = sym (λ i. executes (k.0 i) && k.2 i) ∙ parts.1 in
+      (λ (k : AreKept Clocks (planned_turn code s) (planned_turn code (without_time s))). kept_same (planned_turn code s) (planned_turn code (without_time s)) k)
+      (λ (k : AreExecuted Clocks (planned_turn code s) (planned_turn code (without_time s)) × (fetches_time (fetch_at code s.control.pc) ≡ true)).
+      let g : true ≡ false = sym (λ i. executes (k.0.0 i) && k.1 i) ∙ parts.1 in
       absurd (true≢false g))
-      (planned_stage code s (special_without_time s.control.special) cleared bytes (kept_pending s.control (special_without_time s.control.special) cleared none))
+      (planned_stage code s (special_without_time s.control.special) cleared (λ i len e. fetched_range code s.control.pc i len bytes e) (kept_pending s.control (special_without_time s.control.special) cleared none))
     where
       not_false : (b : Bool) → not b ≡ false → b ≡ true
       not_false true h = refl

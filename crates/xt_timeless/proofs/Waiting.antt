@@ -1,23 +1,19 @@
 -- A turn from states that are equal but for the bits of timers in INTERRUPT.
-use Rattle.std.proofs.Common.{◌≡◌, ◌≢◌, ℕ, Bool, true, false, eqb, ◌&&◌, ◌||◌, List, length, slice_index, slice_set, refl, sym, ap, ◌∙◌, subst, ⊎_elim, arith}
+use Rattle.std.proofs.Common.{◌≡◌, ◌≢◌, ℕ, Bool, true, false, eqb, ◌&&◌, ◌||◌, List, slice_index, slice_set, refl, sym, ap, ◌∙◌, subst, ⊎_elim, arith}
 use Rattle.std.proofs.lemmas.Bool.{cases_eq, eqb-true, false_from_ne_true, true≢false}
 use Rattle.std.proofs.lemmas.List.{ext_get_or, get_or-set_other, get_or-set_same, length-set}
-use Rattle.xt_special.specs.Access.{without_bits}
-use Rattle.xt_special.specs.Control.{special_of}
-use Rattle.xt_special.specs.Interrupts.{pending_of}
-use Rattle.xt_trace.specs.declared.record.StepKind.TheVariants as kind
-use Rattle.xt_map.specs.Code.{AreBytes}
+use Rattle.xt_map.proofs.Fetches.{fetched_range}
 use Rattle.xt_map.specs.Fetching.{fetch_at}
 use Rattle.xt_exec.specs.State.{State}
 use Rattle.xt_exec.specs.Turn.{Planned, planned_turn}
-use Rattle.xt_timeless.specs.Time.{executes, fetches_time, timer_bits}
-use Rattle.xt_timeless.specs.Alike.{AreAlike, may_differ}
+use Rattle.xt_timeless.specs.Time.{executes, fetches_time}
+use Rattle.xt_timeless.specs.Alike.{AreAlike, Timers, may_differ}
 use Rattle.xt_timeless.specs.TimeLaws.{DifferInTimers, TimersWait, with_interrupt}
 use Rattle.xt_timeless.proofs.Lists.{alike_interrupt, alike_sym}
-use Rattle.xt_timeless.proofs.Turning.{AreKept, planned_stage}
+use Rattle.xt_timeless.proofs.Turning.{AreExecuted, AreKept, planned_stage}
 
 -- a list that differs in INTERRUPT alone is the other one with its INTERRUPT
-only_interrupt : (xs ys : List ℕ) → AreAlike false xs ys → ys ≡ slice_set xs 226 (slice_index ys 226)
+only_interrupt : (xs ys : List ℕ) → AreAlike Timers xs ys → ys ≡ slice_set xs 226 (slice_index ys 226)
 only_interrupt xs ys a =
     ext_get_or 0 ys (slice_set xs 226 (slice_index ys 226)) (sym a.long ∙ sym (length-set xs 226 (slice_index ys 226)))
     (λ j less. ⊎_elim
@@ -30,10 +26,10 @@ only_interrupt xs ys a =
     and_false true = refl
     and_false false = refl
 
-    other : (j : ℕ) → j ≢ 226 → may_differ false j ≡ false
-    other j d = λ i. false_from_ne_true (eqb j 226) (λ t. d (eqb-true j 226 t)) i || and_false (eqb j 234 || (eqb j 240 || (eqb j 241 || eqb j 242))) i
+    other : (j : ℕ) → j ≢ 226 → may_differ Timers j ≡ false
+    other j d = λ i. (false_from_ne_true (eqb j 226) (λ t. d (eqb-true j 226 t)) i && true) || (and_false (eqb j 234 || (eqb j 240 || (eqb j 241 || eqb j 242))) i || and_false (eqb j 12) i)
 
-kept_differs : (p q : Planned) → AreKept false p q → DifferInTimers p q
+kept_differs : (p q : Planned) → AreKept Timers p q → DifferInTimers p q
 kept_differs p q k =
     let list = k.after.list in
     let put : List ℕ → State = λ l. record p.after { control = record p.after.control { special = l } } in
@@ -49,11 +45,11 @@ kept_differs p q k =
 
 pub timers_wait : TimersWait
 timers_wait code s v bytes others same free =
-    let a : AreAlike false s.control.special (slice_set s.control.special 226 v) =
-    alike_sym (slice_set s.control.special 226 v) s.control.special (alike_interrupt s.control.special v others) in
+    let a : AreAlike Timers s.control.special (slice_set s.control.special 226 v) =
+    alike_sym (slice_set s.control.special 226 v) s.control.special (alike_interrupt s.control.special v refl others) in
     ⊎_elim
-    (λ (k : AreKept false (planned_turn code s) (planned_turn code (with_interrupt v s))). kept_differs (planned_turn code s) (planned_turn code (with_interrupt v s)) k)
-    (λ (k : ((planned_turn code s).kind ≡ kind.Insn) × ((planned_turn code (with_interrupt v s)).kind ≡ kind.Insn) × (fetches_time (fetch_at code s.control.pc) ≡ true)).
-    let g : true ≡ false = sym (λ i. executes (k.0 i) && k.2 i) ∙ free in
+    (λ (k : AreKept Timers (planned_turn code s) (planned_turn code (with_interrupt v s))). kept_differs (planned_turn code s) (planned_turn code (with_interrupt v s)) k)
+    (λ (k : AreExecuted Timers (planned_turn code s) (planned_turn code (with_interrupt v s)) × (fetches_time (fetch_at code s.control.pc) ≡ true)).
+    let g : true ≡ false = sym (λ i. executes (k.0.0 i) && k.1 i) ∙ free in
     absurd (true≢false g))
-    (planned_stage code s (slice_set s.control.special 226 v) a bytes (sym same))
+    (planned_stage code s (slice_set s.control.special 226 v) a (λ i len e. fetched_range code s.control.pc i len bytes e) (sym same))

@@ -6,6 +6,7 @@ use Rattle.std.specs.Prelude.{◌≡◌, ℕ, Bool, true, false, ◌==◌, ◌&&
 use Rattle.std.specs.Prelude.{slice_index, slice_set, bit_and}
 use Rattle.xt_isa.specs.declared.Insn.{Insn}
 use Rattle.xt_isa.specs.declared.Insn.TheVariants as insn
+use Rattle.xt_isa.specs.declared.memory.Memory.TheVariants as memory
 use Rattle.xt_isa.specs.declared.system.System.TheVariants as system
 use Rattle.xt_isa.specs.declared.system.SpecialName.TheVariants as SpecialName
 use Rattle.xt_special.specs.Numbers as number
@@ -57,6 +58,28 @@ abbrev pub reads_time : Insn → Bool
 reads_time (insn.System (system.Special SpecialName.Rsr t n)) = is_of_time n
 reads_time (insn.System (system.Special SpecialName.Xsr t n)) = is_of_time n
 reads_time _ = false
+
+-- S32C1I, or RSR or XSR of SCOMPARE1
+abbrev pub reads_compare : Insn → Bool
+reads_compare (insn.Memory (memory.S32c1i t s offset)) = true
+reads_compare (insn.System (system.Special SpecialName.Rsr t n)) = n == number.scompare1
+reads_compare (insn.System (system.Special SpecialName.Xsr t n)) = n == number.scompare1
+reads_compare _ = false
+
+-- WSR of SCOMPARE1
+abbrev pub writes_compare : Insn → Bool
+writes_compare (insn.System (system.Special SpecialName.Wsr t n)) = n == number.scompare1
+writes_compare _ = false
+
+abbrev pub fetches_write : Fetched → Bool
+fetches_write (Fetches i len) = writes_compare i
+fetches_write (Fails address) = false
+fetches_write SpellsNothing = false
+
+abbrev pub fetches_compare : Fetched → Bool
+fetches_compare (Fetches i len) = reads_compare i
+fetches_compare (Fails address) = false
+fetches_compare SpellsNothing = false
 
 abbrev pub fetches_time : Fetched → Bool
 fetches_time (Fetches i len) = reads_time i

@@ -14,7 +14,7 @@ use Rattle.xt_trace.specs.Worlds.{Core, World, advance, give}
 use Rattle.xt_exec.specs.Chips.{processor}
 use Rattle.xt_exec.specs.State.{State}
 use Rattle.xt_exec.specs.Turn.{Planned, planned_turn}
-use Rattle.xt_timeless.specs.Time.{AreEqualButForTime, executes, fetches_time}
+use Rattle.xt_timeless.specs.Time.{AreEqualButForTime, executes, fetches_compare, fetches_time, fetches_write}
 use Rattle.xt_timeless.specs.Time.{timer_bits, uses_time, without_time}
 
 -- ---- one turn
@@ -69,6 +69,37 @@ TimersWait =
     → pending_of (with_interrupt v s).control ≡ pending_of s.control
     → (executes (planned_turn code s).kind && fetches_time (fetch_at code s.control.pc)) ≡ false
     → DifferInTimers (planned_turn code s) (planned_turn code (with_interrupt v s))
+
+-- ---- SCOMPARE1
+
+-- SCOMPARE1 is this word
+abbrev pub with_compare : ℕ → State → State
+with_compare v s = record s {
+  control = record s.control { special = slice_set s.control.special number.scompare1 v };
+}
+
+-- they are equal but for SCOMPARE1 after them
+pub record DifferInCompare (p q : Planned) : Type 0 where
+  pub kind : p.kind ≡ q.kind
+  pub write : p.write ≡ q.write
+  pub access : p.access ≡ q.access
+  pub awaited : p.awaited ≡ q.awaited
+  pub compare : ℕ
+  pub after : q.after ≡ with_compare compare p.after
+
+-- From states that are equal but for SCOMPARE1, a turn that does not read it is the same.
+abbrev pub CompareWaits : Type 0
+CompareWaits =
+    (code : ℕ → ℕ) (s : State) (v : ℕ)
+    → fetches_compare (fetch_at code s.control.pc) ≡ false
+    → DifferInCompare (planned_turn code s) (planned_turn code (with_compare v s))
+
+-- A turn that executes WSR of SCOMPARE1 leaves equal states.
+abbrev pub CompareIsWritten : Type 0
+CompareIsWritten =
+    (code : ℕ → ℕ) (s : State) (v : ℕ)
+    → (executes (planned_turn code s).kind && fetches_write (fetch_at code s.control.pc)) ≡ true
+    → planned_turn code (with_compare v s) ≡ planned_turn code s
 
 -- ---- the turns of a list
 

@@ -9,4 +9,4 @@ pub mod laws;
 mod using;
 
 pub use clearing::clear_time;
-pub use using::{reads_time, uses_time};
+pub use using::{reads_compare, reads_time, uses_time, writes_compare};

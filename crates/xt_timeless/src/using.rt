@@ -7,12 +7,13 @@ ghost use Rattle.xt_special.specs.Numbers as numbers;
 ghost use Rattle.xt_special.specs.Interrupts.{pending_level};
 ghost use Rattle.xt_exec.specs.States.{state_of};
 ghost use Rattle.xt_exec.specs.Turn.{planned_turn, window_check};
-ghost use Rattle.xt_timeless.specs.Time.{executes, fetches_time, is_of_time, reads_time, uses_time};
+ghost use Rattle.xt_timeless.specs.Time.{executes, fetches_time, is_of_time, reads_compare, reads_time, uses_time, writes_compare};
 
 use crate::clearing::TIMER_BITS;
 use xt_codec::{Fetch, instruction_at};
 use xt_exec::Regs;
 use xt_isa::Insn;
+use xt_isa::memory::Memory;
 use xt_isa::system::{SpecialName, System};
 use xt_map::Constants;
 use xt_rows::highest_register;
@@ -37,6 +38,28 @@ pub fn reads_time(insn: Insn) -> bool
     match insn {
         Insn::System(System::Special(SpecialName::Rsr, _, n)) => is_of_time(n),
         Insn::System(System::Special(SpecialName::Xsr, _, n)) => is_of_time(n),
+        _ => false,
+    }
+}
+
+/// Whether an instruction is S32C1I, or RSR or XSR of SCOMPARE1.
+pub fn reads_compare(insn: Insn) -> bool
+    ensures { result ≡ reads_compare insn }
+{
+    match insn {
+        Insn::Memory(Memory::S32c1i(_, _, _)) => true,
+        Insn::System(System::Special(SpecialName::Rsr, _, n)) => n == number::SCOMPARE1,
+        Insn::System(System::Special(SpecialName::Xsr, _, n)) => n == number::SCOMPARE1,
+        _ => false,
+    }
+}
+
+/// Whether an instruction is WSR of SCOMPARE1.
+pub fn writes_compare(insn: Insn) -> bool
+    ensures { result ≡ writes_compare insn }
+{
+    match insn {
+        Insn::System(System::Special(SpecialName::Wsr, _, n)) => n == number::SCOMPARE1,
         _ => false,
     }
 }

@@ -61,6 +61,7 @@ loop-made-init c =
           (bars_are code t.timed o (ap is_over (sym own) ∙ c.requires.on) ∙ free.0)
           (fit_is code ms (range_of c.args.self.now.stack0) (range_of c.args.self.now.stack1) t.timed c.args.self.now.places.list.items core o.side free.1) c.in_ok-turn.ensures.turn;
       running = c.in_ok-turn.ensures.running;
+      ready = c.in_ok-turn.ensures.ready;
       count = omega arith;
     }
 
@@ -87,6 +88,7 @@ loop-made-preserved c =
           (watched_of m c.args.watched.now) (own_at c.loop-made.side c.loop-made.frames c.loop-made.judge) (own_at new.side new.frames new.judge) (contents_of m c.loop-made.changes) (contents_of m new.changes)
           (c.local.ensures.alone c.if-not-local.false) (c.local.ensures.fit c.if-not-local.false) c.in_ok-turn-2.ensures.turn c.loop-made.invariant.led;
       running = c.in_ok-turn-2.ensures.running;
+      ready = c.in_ok-turn-2.ensures.ready;
       count = omega (arith, e);
     }
 

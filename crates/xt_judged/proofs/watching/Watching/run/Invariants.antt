@@ -1,6 +1,7 @@
 use Rattle.std.proofs.Common.{◌≡◌, ◌+◌}
 use Rattle.xt_map.specs.Memory.{constant_byte}
 use Rattle.xt_search.specs.Changed.{contents_of}
+use Rattle.xt_outcomes.specs.Ahead.{IsReady}
 use Rattle.xt_outcomes.specs.KeptWorlds.{moved_spot, spot_of}
 use Rattle.xt_judged.specs.Forgotten.{IsLed}
 use Rattle.xt_judged.specs.OwnJudges.{range_of, with_judge}
@@ -16,5 +17,6 @@ invariant-loop-made l =
           (watched_of m l.watched)
           (with_judge l.core (judge_at l.frames l.judge) (moved_spot l.core l.side (contents_of m l.changes) (spot_of m l.watched.world)) (watched_of m l.watched));
       running : IsRunning l.frames l.judge;
+      ready : IsReady l.side.state l.ahead;
       count : l.turns ≡ l.made + 1;
     }

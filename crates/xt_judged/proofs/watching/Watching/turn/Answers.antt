@@ -3,12 +3,22 @@ use Rattle.xt_map.specs.Memory.{constant_byte}
 use Rattle.xt_search.specs.Changed.{contents_of}
 use Rattle.xt_judged.specs.OwnJudges.{range_of}
 use Rattle.xt_judged.specs.WatchedKept.{judge_at, own_at}
+use Rattle.xt_exec.specs.States.{file_state}
+use Rattle.xt_judged.proofs.CompareSteps.{compare_fits}
 use Rattle.xt_judged.proofs.FewerTurns.{fit_of, turn_is}
 use Rattle.xt_judged.proofs.WatchedMade.{some_left}
 use Rattle.xt_judged.proofs.watching.Watching.turn.Goals as goal
 
 pub go_on-requires-clause-left : goal.go_on-requires-clause-left
 go_on-requires-clause-left c = some_left (own_at c.args.side.now c.args.frames.now c.args.judge.now) c.requires.on
+
+pub go_past-requires-clause-fit : goal.go_past-requires-clause-fit
+go_past-requires-clause-fit c =
+    let t = c.args.self.now.timed in
+    let o = own_at c.args.side.now c.args.frames.now c.args.judge.now in
+    let a = c.args.ahead.now in
+    compare_fits (constant_byte t.code) t.dead.masks.items o.side.state _ a.record (file_state a.regs) c.requires.ahead.turn
+    (fit_of (constant_byte t.code) t.dead.masks.items t.timed o c.requires.on c.requires.fit)
 
 pub returns-clause-turn : goal.returns-clause-turn
 returns-clause-turn c =

@@ -16,8 +16,8 @@ returns-clause-side c =
     let x = c.args.ahead.now.record in
     let u = file_state c.args.ahead.now.regs in
     let is = c.requires.ahead.turn in
-    c.forget.ensures
-    ∙ ap (side_forgotten ms) (c.come_past.ensures ∙ past_is code t.timed s m x u c.requires.left is)
+    c.go_past.ensures.side
+    ∙ ap (side_forgotten ms) (past_is code t.timed s m x u c.requires.left is)
     ∙ next_is code t.timed s m x u c.requires.left is ms
 
 pub returns-clause-memory : goal.returns-clause-memory

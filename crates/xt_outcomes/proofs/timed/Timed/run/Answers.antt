@@ -54,6 +54,7 @@ loop-made-init c =
       turns = is;
       free = (free, tt);
       lean = λ l. c.in_ok-go_on.ensures.lean (subst (IsLean m) (sym (c.in_ok-changes.ensures ∙ c.deref.ensures)) l);
+      ready = c.in_ok-go_on.ensures.ready;
       count = omega arith;
     }
 
@@ -80,6 +81,7 @@ loop-made-preserved c =
       turns = turn_last (spot_next P t.timed ms) core c.loop-made.turns u v w c.loop-made.invariant.turns next;
       free = free_last code t.timed ms core c.loop-made.turns u w c.loop-made.invariant.turns c.loop-made.invariant.free (local_bars_none code t.timed ms ps core (side_of core u) here);
       lean = λ l. c.in_ok-go_on-2.ensures.lean (c.loop-made.invariant.lean l);
+      ready = c.in_ok-go_on-2.ensures.ready;
       count = omega arith;
     }
 

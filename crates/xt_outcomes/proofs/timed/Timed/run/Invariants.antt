@@ -2,6 +2,7 @@ use Rattle.std.proofs.Common.{◌≡◌, ◌+◌, ◌-◌}
 use Rattle.xt_map.specs.Memory.{constant_byte}
 use Rattle.xt_search.specs.Changed.{IsLean, contents_of}
 use Rattle.xt_exec.specs.Chips.{processor}
+use Rattle.xt_outcomes.specs.Ahead.{IsReady}
 use Rattle.xt_search.specs.Meetings.{after, onward}
 use Rattle.xt_outcomes.specs.KeptWorlds.{moved_spot, spot_of}
 use Rattle.xt_outcomes.specs.Nexts.{TurnsFit, spot_next}
@@ -18,5 +19,6 @@ invariant-loop-made l = record {
       ≡ after (spot_next (processor (constant_byte l.self.code)) l.self.timed l.self.dead.masks.items) (turns_of l.core l.turns) (spot_of l.self.opening.contents l.world);
   free : TurnsFit (constant_byte l.self.code) l.self.timed l.self.dead.masks.items (turns_of l.core l.turns) (spot_of l.self.opening.contents l.world);
   lean : IsLean l.self.opening.contents l.world.changes.value → IsLean l.self.opening.contents l.changes;
+  ready : IsReady l.side.state l.ahead;
   count : l.turns ≡ l.made + 1;
 }
